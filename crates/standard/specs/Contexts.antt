@@ -1,0 +1,21 @@
+-- Document 01, 'What the bench reads': what depends on the context.
+use Prim.Native.Nat.{ℕ}
+use Prim.Native.Char.{code}
+use mathlib.Core.Bool.{Bool, true, false}
+use lib.Dec.{eqb}
+use Rattle.standard.specs.declared.Context.{Context}
+use Rattle.standard.specs.declared.Context.the-variants.{Text, Attribute}
+
+-- The character before which a source ends.
+abbrev pub ends : Context → ℕ → Bool
+ends Text c = eqb c (code "<")
+ends Attribute c = eqb c (code "\"")
+
+-- A reference is read as part of an attribute (WHATWG HTML, 13.2.5.72).
+abbrev pub inAttribute : Context → Bool
+inAttribute Text = false
+inAttribute Attribute = true
+
+-- The character that is refused: NUL, in each context.
+abbrev pub refused : Context → ℕ → Bool
+refused context c = eqb c 0

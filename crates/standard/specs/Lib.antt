@@ -1,0 +1,11 @@
+pub mod Notation
+pub mod Utf8
+pub mod Errors
+pub mod Classes
+pub mod Contexts
+pub mod Numbers
+pub mod Names
+pub mod NameList
+pub mod Answers
+pub mod Pieces
+pub mod Reading

@@ -1,0 +1,10 @@
+// What the decoder and the checker share, and nothing more: the contexts, the reader of one character, and the names.
+pub mod characters;
+pub mod names;
+pub mod table;
+
+// Where a source stands in a page: its end, its rule for names without `;` and its numbers in the exports go by this.
+pub enum Context {
+    Text,
+    Attribute,
+}
