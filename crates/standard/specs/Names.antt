@@ -1,6 +1,6 @@
 -- WHATWG HTML, 13.2.5.73: names, the longest one that stands at the front of some bytes, and tables of names as bytes.
-use Prim.Native.Nat.{ℕ, zero, suc, _+_, _*_}
-use mathlib.Core.List.{List, [], _∷_}
+use Prim.Native.Nat.{ℕ, zero, suc, _+_, _*_, _/_, _%_}
+use mathlib.Core.List.{List, [], _∷_, _++_}
 use mathlib.Core.Bool.{Bool, true, false, _||_, _&&_}
 use lib.Dec.{ltb, leb, eqb}
 use lib.ListN.{length, getD, take, drop}
@@ -69,3 +69,12 @@ recordsFrom (suc skip) (b ∷ l) = recordsFrom skip l
 -- The names of a table.
 abbrev pub records : List ℕ → List Name
 records l = recordsFrom 0 l
+
+-- The four bytes of a number, the lowest first.
+abbrev pub fourBytes : ℕ → List ℕ
+fourBytes n = n % 256 ∷ n / 256 % 256 ∷ n / 65536 % 256 ∷ n / 16777216 % 256 ∷ []
+
+-- The table of some names.
+unfoldable pub tableOf : List Name → List ℕ
+tableOf [] = []
+tableOf (n ∷ names) = length (n .word) ∷ n .word ++ fourBytes (n .first) ++ fourBytes (n .second) ++ tableOf names

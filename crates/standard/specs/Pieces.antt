@@ -63,11 +63,14 @@ digitsAt base intro s = digitsThen base intro (front (isDigit base) s) s
 unfoldable pub numeric : List ℕ → Piece
 numeric s = if next (code "x") s || next (code "X") s then digitsAt 16 3 (drop 1 s) else digitsAt 10 2 s
 
+-- The text of some characters.
+unfoldable pub encodes : List ℕ → List ℕ
+encodes [] = []
+encodes (c ∷ cs) = encode c ++ encodes cs
+
 -- The text of a reference.
 abbrev pub charRefText : CharRef → List ℕ
-charRefText r =
-    if eqb (r .«num_chars») 2 then encode (getD (r .chars) 0 0) ++ encode (getD (r .chars) 1 0)
-    else encode (getD (r .chars) 0 0)
+charRefText r = encodes (take (r .«num_chars») (r .chars))
 
 -- One or more ASCII letters or digits, and then `;`.
 unfoldable pub unknownName : List ℕ → Bool

@@ -1,5 +1,10 @@
-// The 216 built-in names in the table's layout, sorted by name.
-pub const NAMES: [u8; 3101] = *b"\
+// The built-in names.
+ghost use mathlib.Core.Path.{_≡_};
+ghost use Rattle.standard.specs.Names.{tableOf};
+ghost use Rattle.standard.specs.NameList.{builtin};
+
+// The 216 names as records, sorted by name.
+const NAMES: [u8; 3101] = *b"\
     \x05AElig\xC6\0\0\0\0\0\0\0\x06AElig;\xC6\0\0\0\0\0\0\0\x03AMP&\0\0\0\0\0\0\0\x04AMP;&\0\0\0\0\0\0\0\
     \x06Aacute\xC1\0\0\0\0\0\0\0\x07Aacute;\xC1\0\0\0\0\0\0\0\x05Acirc\xC2\0\0\0\0\0\0\0\x06Acirc;\xC2\0\0\0\0\0\0\0\
     \x06Agrave\xC0\0\0\0\0\0\0\0\x07Agrave;\xC0\0\0\0\0\0\0\0\x05Aring\xC5\0\0\0\0\0\0\0\x06Aring;\xC5\0\0\0\0\0\0\0\
@@ -54,3 +59,10 @@ pub const NAMES: [u8; 3101] = *b"\
     \x06ugrave\xF9\0\0\0\0\0\0\0\x07ugrave;\xF9\0\0\0\0\0\0\0\x03uml\xA8\0\0\0\0\0\0\0\x04uml;\xA8\0\0\0\0\0\0\0\
     \x04uuml\xFC\0\0\0\0\0\0\0\x05uuml;\xFC\0\0\0\0\0\0\0\x06yacute\xFD\0\0\0\0\0\0\0\x07yacute;\xFD\0\0\0\0\0\0\0\
     \x03yen\xA5\0\0\0\0\0\0\0\x04yen;\xA5\0\0\0\0\0\0\0\x04yuml\xFF\0\0\0\0\0\0\0\x05yuml;\xFF\0\0\0\0\0\0\0";
+
+// The table of the built-in names: whoever looks names up takes it once and lends it to each lookup.
+pub fn builtin_names() -> [u8; 3101]
+    ensures { λ r. ⌜ r ≡ tableOf builtin ⌝ }
+{
+    NAMES
+}

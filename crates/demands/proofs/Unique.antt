@@ -1,0 +1,37 @@
+-- Document 01, 'What counts as proved': of each public function, two results that meet its `ensures` on the same arguments are equal.
+-- `Reads.Post` is the function's own `ensures`, as the checker reads it from the source.
+use Prim.Native.Nat.{ℕ}
+use mathlib.Core.Path.{_≡_, sym, _∙_}
+use mathlib.Core.List.{List}
+use contract.Lifetimes.{Lfts}
+use denote.Triple.Clauses.{AtExit}
+use borrow.Fn.Kinds.{PK, RK, Dens, resT, endedOf, Out}
+use Rattle.standard.proofs.characters.read_char.Kinds as read-char-kinds
+use Rattle.standard.proofs.characters.read_char.Reads as read-char-reads
+use Rattle.standard.proofs.names.longest_name.Kinds as longest-name-kinds
+use Rattle.standard.proofs.names.longest_name.Reads as longest-name-reads
+use Rattle.standard.proofs.names.begins_name.Kinds as begins-name-kinds
+use Rattle.standard.proofs.names.begins_name.Reads as begins-name-reads
+use Rattle.standard.proofs.table.builtin_names.Kinds as builtin-names-kinds
+use Rattle.standard.proofs.table.builtin_names.Reads as builtin-names-reads
+
+-- An `ensures` of a function with n lifetimes, parameters ps and result r leaves one result only.
+abbrev pub Fixes : (n : ℕ) (ps : List (PK n)) (r : RK n) → Out n ps r → Type 0
+Fixes n ps r ensures =
+    (κs : Lfts n) (a : Dens κs ps) (x y : resT r κs .Denot) (e f : AtExit (endedOf n ps r) κs) → ensures κs a x e → ensures κs a y f → x ≡ y
+
+-- What equals the same is equal.
+pub only : {A : Type 0} {x y z : A} → x ≡ z → y ≡ z → x ≡ y
+only p q = p ∙ sym q
+
+pub read-char : Fixes 1 read-char-kinds.ps read-char-kinds.r read-char-reads.Post
+read-char κs a x y e f p q = only p q
+
+pub longest-name : Fixes 2 longest-name-kinds.ps longest-name-kinds.r longest-name-reads.Post
+longest-name κs a x y e f p q = only p q
+
+pub begins-name : Fixes 2 begins-name-kinds.ps begins-name-kinds.r begins-name-reads.Post
+begins-name κs a x y e f p q = only p q
+
+pub builtin-names : Fixes 0 builtin-names-kinds.ps builtin-names-kinds.r builtin-names-reads.Post
+builtin-names κs a x y e f p q = only p q

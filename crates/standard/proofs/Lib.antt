@@ -1,0 +1,14 @@
+pub mod Choice
+pub mod Every
+pub mod Computing
+pub mod Lists
+pub mod Utf8
+pub mod RoundTrip
+pub mod Back
+pub mod Lookup
+pub mod BuiltinNames
+pub mod Skips
+pub mod Stops
+pub mod Narrow
+pub mod PieceSize
+pub mod Bounds
