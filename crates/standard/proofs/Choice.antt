@@ -29,10 +29,6 @@ test? false = inr refl
 pub below? : (a b : ℕ) → (a < b) ⊎ (b ≤ a)
 below? a b = ⊎-map (ltb-true a b) (ltb-false a b) (test? (ltb a b))
 
--- Two numbers are the same, or they are not.
-pub same? : (a b : ℕ) → (a ≡ b) ⊎ (a ≡ b → ⊥)
-same? a b = ⊎-map (eqb-true a b) (eqb-false a b) (test? (eqb a b))
-
 -- Where both tests hold at once, each holds.
 pub and-true : (t u : Bool) → t && u ≡ true → (t ≡ true) × (u ≡ true)
 and-true true u e = (refl, e)
@@ -42,11 +38,6 @@ and-true false u e = no-way (sym e)
 pub or-true : (t u : Bool) → t || u ≡ true → (t ≡ true) ⊎ (u ≡ true)
 or-true true u e = inl refl
 or-true false u e = inr e
-
--- Where two tests do not both hold, the first fails or the second.
-pub and-false : (t u : Bool) → t && u ≡ false → (t ≡ false) ⊎ (u ≡ false)
-and-false true u e = inr e
-and-false false u e = inl refl
 
 -- A number in a range passes its test.
 pub inside-between : (a b c : ℕ) → a ≤ c → c ≤ b → between a b c ≡ true
@@ -60,7 +51,3 @@ outside-between a b c (inr h) = ⊎-elim (λ e. rw e (lt-leb c b h)) (λ e. rw e
 -- A number that passes a range's test is in it.
 pub between-true : (a b c : ℕ) → between a b c ≡ true → (a ≤ c) × (c ≤ b)
 between-true a b c e = let w = and-true (leb a c) (leb c b) e in (leb-true a c (w .0), leb-true c b (w .1))
-
--- A number that fails a range's test is under it or over it.
-pub between-false : (a b c : ℕ) → between a b c ≡ false → (c < a) ⊎ (b < c)
-between-false a b c e = ⊎-map (leb-false a c) (leb-false c b) (and-false (leb a c) (leb c b) e)

@@ -3,7 +3,7 @@ use Prim.Native.Nat.{ℕ, zero, suc, _+_, _-_, _≤_, _<_}
 use Prim.Native.Char.{code}
 use mathlib.Core.Path.{_≡_, refl, sym}
 use mathlib.Core.List.{List, [], _∷_}
-use mathlib.Core.Bool.{Bool, true, false, not, _&&_, _||_}
+use mathlib.Core.Bool.{Bool, true, false, _&&_, _||_}
 use native.Mathlib.Omega.{arith}
 use lib.Dec.{ltb, eqb}
 use lib.ListN.{length, getD, drop, length-take, length-drop}
@@ -22,7 +22,7 @@ use Rattle.standard.specs.Errors.{
   unknown-named-character-reference,
 }
 use Rattle.standard.specs.Contexts.{inAttribute}
-use Rattle.standard.specs.Classes.{noncharacter, control, whitespace, alphanumeric, characterCode}
+use Rattle.standard.specs.Classes.{alphanumeric, characterCode}
 use Rattle.standard.specs.Numbers.{digitOf, isDigit, numberFrom, number, replacements, replacedBy, Meaning, meaningOf}
 use Rattle.standard.specs.Names.{Name, longest}
 use Rattle.standard.specs.Pieces.{
@@ -44,6 +44,7 @@ use Rattle.standard.proofs.Choice.{if-both, no-way}
 use Rattle.standard.proofs.Every.{All, every-all}
 use Rattle.standard.proofs.Utf8.{read-length}
 use Rattle.standard.proofs.RoundTrip.{encode-short, encode-three}
+use Rattle.standard.proofs.Lists.{noncharacters, meaningListed, meanings}
 use Rattle.standard.proofs.Narrow.{Narrow, FoundFits, longest-fits}
 
 -- A piece fits in room bytes: it has some of them, no more errors than bytes, and with narrow names no longer a text.
@@ -82,13 +83,12 @@ replaced-cases P (row ∷ rows) n all h =
 
 -- A number of 16 bits means a character of 16 bits.
 meaning-short : (n : ℕ) → n < 0x10000 → meaningOf n .char < 0x10000
-unfolding meaningOf replacements
+unfolding meaningListed replacements
 meaning-short n h =
-    if-both Short (eqb n 0) _ _ (λ t. omega arith)
-    (λ f. if-both Short (ltb 0x10FFFF n) _ _ (λ t. omega arith)
-    (λ f. if-both Short (between 0xD800 0xDFFF n) _ _ (λ t. omega arith)
-    (λ f. if-both Short (noncharacter n) _ _ (λ t. h)
-    (λ f. if-both Short (eqb n 0xD || (control n && not (whitespace n))) _ _ (λ t. replaced) (λ f. h)))))
+    rw (meanings n)
+    (if-both Short (eqb n 0 || between 0xD800 0xDFFF n || ltb 0x10FFFF n) _ _ (λ t. omega arith)
+    (λ f. if-both Short (between 0x80 0x9F n) _ _ (λ t. replaced)
+    (λ f. if-both Short (between 0x1 0x8 n || eqb n 0xB || between 0xD 0x1F n || eqb n 0x7F || noncharacters n) _ _ (λ t. h) (λ f. h))))
   where
     Short : Meaning → Type 0
     Short m = m .char < 0x10000

@@ -58,7 +58,8 @@ returns-2 : tie.Need-returns-2 Inv-loop μ-loop
 returns-2 c =
     let a = c .before .before .before .before .before .before .before .before .before .args in
     let l = c .before .before .before .before .before .before .loop in
-    sym (l .inv .0 ∙ rw (records-more (a .table .now) (l .at) (omega arith) (omega arith)) (begins-hit _ _ _ (rw part-is at (sym (c .before .stands-at .ensures) ∙ c .if2 .taken))))
+    sym (l .inv .0 ∙ rw (records-more (a .table .now) (l .at) (omega arith) (omega arith))
+    (begins-hit _ _ _ (rw part-is at (sym (c .before .stands-at .ensures) ∙ c .if2 .taken))))
 
 add-at : tie.Need-add-at Inv-loop μ-loop
 add-at c = omega arith
@@ -69,8 +70,11 @@ loop-less c = omega arith
 loop-again : tie.Need-loop-again Inv-loop μ-loop
 loop-again c =
     let a = c .before .before .before .before .before .before .before .before .before .args in
-    let l = c .before .before .before .before .before .before .loop in
-    (l .inv .0 ∙ rw (records-more (a .table .now) (l .at) (omega arith) (omega arith)) (begins-miss _ _ _ (rw part-is at (sym (c .before .stands-at .ensures) ∙ c .if2 .left))), omega arith)
+    let l = c .before .before .before .before .before .before .loop in (
+      l .inv .0 ∙ rw (records-more (a .table .now) (l .at) (omega arith) (omega arith))
+          (begins-miss _ _ _ (rw part-is at (sym (c .before .stands-at .ensures) ∙ c .if2 .left))),
+      omega arith,
+    )
 
 returns-3 : tie.Need-returns-3 Inv-loop μ-loop
 returns-3 c =
