@@ -6,13 +6,12 @@ use mathlib.Core.List.{List, [], _∷_, _++_}
 use mathlib.Core.Bool.{Bool, true, false, not, _||_, _&&_}
 use lib.Dec.{ltb, leb, eqb}
 use lib.ListN.{length}
-use Rattle.standard.specs.Notation.{if_then_else_}
+use Rattle.standard.specs.Notation.{if_then_else_, every}
 use Rattle.standard.specs.Classes.{alphanumeric}
 use Rattle.standard.specs.Utf8.{bytes}
 use Rattle.standard.specs.Names.{Name, stands, records, tableOf}
 use Rattle.standard.specs.NameList.{builtin}
 use Rattle.standard.proofs.Computing.{computing}
-use Rattle.standard.proofs.Every.{every}
 
 -- There are 216.
 pub count : length builtin ≡ 216

@@ -2,17 +2,13 @@
 use mathlib.Core.Path.{_≡_, sym, subst}
 use mathlib.Core.Logic.{_⊎_, inl, inr}
 use mathlib.Core.List.{List, [], _∷_, List·Memᴰ, List·Memᴰ·not-nil, List·Memᴰ·cases-cons}
-use mathlib.Core.Bool.{Bool, true, _&&_, and-eq-true-iff}
+use mathlib.Core.Bool.{Bool, true, and-eq-true-iff}
+use Rattle.standard.specs.Notation.{every}
 
 -- P holds of every element.
 abbrev pub All : {A : Type 0} → (A → Type 0) → List A → Type 0
 All P [] = Unit {0}
 All P (a ∷ l) = P a × All P l
-
--- Every element passes the test.
-abbrev pub every : {A : Type 0} → (A → Bool) → List A → Bool
-every test [] = true
-every test (a ∷ l) = test a && every test l
 
 -- Where each element that passes has P, a list whose every element passes has P throughout.
 pub every-all : {A : Type 0} (P : A → Type 0) (test : A → Bool) → ((a : A) → test a ≡ true → P a) → (l : List A) → every test l ≡ true → All P l

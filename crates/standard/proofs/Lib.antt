@@ -1,6 +1,7 @@
 pub mod Choice
 pub mod Every
 pub mod Computing
+pub mod Puts
 pub mod Lists
 pub mod Utf8
 pub mod RoundTrip

@@ -54,3 +54,8 @@ error code place = record { code = code; place = place }
 unfoldable pub placed : ℕ → List ℕ → List Error
 placed offset [] = []
 placed offset (code ∷ codes) = error code offset ∷ placed offset codes
+
+-- Errors as numbers: code and place of each.
+unfoldable pub numbers : List Error → List ℕ
+numbers [] = []
+numbers (e ∷ errors) = e .code ∷ e .place ∷ numbers errors

@@ -27,3 +27,8 @@ next c s = nextIs (λ b. eqb b c) s
 unfoldable pub front : (ℕ → Bool) → List ℕ → List ℕ
 front p [] = []
 front p (c ∷ s) = if p c then c ∷ front p s else []
+
+-- Every element of a list passes the test.
+abbrev pub every : {A : Type 0} → (A → Bool) → List A → Bool
+every test [] = true
+every test (a ∷ l) = test a && every test l
