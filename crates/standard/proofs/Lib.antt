@@ -1,8 +1,15 @@
 pub mod Choice
+pub mod Tests
 pub mod Every
 pub mod Computing
+pub mod Fronts
+pub mod Blocks
 pub mod Puts
 pub mod Lists
+pub mod Replaced
+pub mod Meanings
+pub mod Stopped
+pub mod Digits
 pub mod Utf8
 pub mod RoundTrip
 pub mod Back
@@ -13,3 +20,4 @@ pub mod Stops
 pub mod Narrow
 pub mod PieceSize
 pub mod Bounds
+pub mod Ascii

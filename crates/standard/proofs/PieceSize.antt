@@ -42,6 +42,7 @@ use Rattle.standard.specs.Pieces.{
 }
 use Rattle.standard.proofs.Choice.{if-both, no-way}
 use Rattle.standard.proofs.Every.{All, every-all}
+use Rattle.standard.proofs.Fronts.{front-induction, front-length}
 use Rattle.standard.proofs.Utf8.{read-length}
 use Rattle.standard.proofs.RoundTrip.{encode-short, encode-three}
 use Rattle.standard.proofs.Lists.{noncharacters, meaningListed, meanings}
@@ -58,14 +59,9 @@ pub record Fits (names : List Name) (room : ℕ) (p : Piece) : Type 0 where
 listed-few : (code : ℕ) → length (listed code) ≤ 1
 listed-few code = if-both (λ (l : List ℕ). length l ≤ 1) (eqb code no-error) _ _ (λ t. omega arith) (λ f. omega arith)
 
--- The longest front of a list is not longer than the list, and its every element passes the test.
-front-fits : (p : ℕ → Bool) (s : List ℕ) → (length (front p s) ≤ length s) × All (λ (c : ℕ). p c ≡ true) (front p s)
-unfolding front
-front-fits p [] = (omega arith, tt)
-front-fits p (c ∷ s) =
-    let w = front-fits p s in
-    if-both (λ (l : List ℕ). (length l ≤ length (c ∷ s)) × All (λ (c : ℕ). p c ≡ true) l) (p c) _ _
-    (λ t. (omega arith, (t, w .1))) (λ f. (omega arith, tt))
+-- Every element of the front passes the test.
+front-passes : (p : ℕ → Bool) (s : List ℕ) → All (λ (c : ℕ). p c ≡ true) (front p s)
+front-passes p = front-induction p (λ u s. All (λ (c : ℕ). p c ≡ true) u) (λ s. tt) (λ b u s e rest. (e, rest))
 
 -- Where an element is next after k others, there are more than k.
 next-there : (p : ℕ → Bool) (k : ℕ) (s : List ℕ) → nextIs p (drop k s) ≡ true → k < length s
@@ -141,7 +137,7 @@ digits-at-fit : (names : List Name) (base intro room : ℕ) (s : List ℕ) → b
     → Fits names room (digitsAt base intro s)
 unfolding digitsAt
 digits-at-fit names base intro room s small long there =
-    let w = front-fits (isDigit base) s in digits-fit names base intro room (front (isDigit base) s) s small long there (w .0) (w .1)
+    digits-fit names base intro room (front (isDigit base) s) s small long there (front-length (isDigit base) s) (front-passes (isDigit base) s)
 
 -- What stands after `&#` fits with it.
 numeric-fits : (names : List Name) (room : ℕ) (s : List ℕ) → 2 + length s ≤ room → Fits names room (numeric s)

@@ -40,9 +40,9 @@ unfolding recordsFrom
 records-unfold n l = ap (λ (rest : List Name). if leb (n + 8) (length l) then recordAt l 0 n ∷ rest else []) (records-skip (n + 8) l)
 
 -- A source stops after k bytes where the rest stops, with k bytes more before it.
-pub stop-skip : (context : Context) (k place : ℕ) (s : List ℕ) → k ≤ length s → stopFrom context k place s ≡ stopFrom context 0 (place + k) (drop k s)
+pub stop-skip : (calls : ℕ → ℕ) (k place : ℕ) (s : List ℕ) → k ≤ length s → stopFrom calls k place s ≡ stopFrom calls 0 (place + k) (drop k s)
 unfolding stopFrom
-stop-skip context zero place s h = ap (λ (p : ℕ). stopFrom context 0 p s) (omega arith)
-stop-skip context (suc k) place [] h = absurd (omega arith)
-stop-skip context (suc k) place (b ∷ s) h =
-    stop-skip context k (suc place) s (omega arith) ∙ ap (λ (p : ℕ). stopFrom context 0 p (drop k s)) (omega arith)
+stop-skip calls zero place s h = ap (λ (p : ℕ). stopFrom calls 0 p s) (omega arith)
+stop-skip calls (suc k) place [] h = absurd (omega arith)
+stop-skip calls (suc k) place (b ∷ s) h =
+    stop-skip calls k (suc place) s (omega arith) ∙ ap (λ (p : ℕ). stopFrom calls 0 p (drop k s)) (omega arith)

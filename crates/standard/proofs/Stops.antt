@@ -12,31 +12,31 @@ use Rattle.standard.specs.declared.characters.CharRead.the-variants.{Cha
 use Rattle.standard.specs.Notation.{if_then_else_}
 use Rattle.standard.specs.Utf8.{readChar}
 use Rattle.standard.specs.Answers.{done}
-use Rattle.standard.specs.Reading.{callsFor, sizeOf, Stop, stops, stopFrom, stopOf}
+use Rattle.standard.specs.Reading.{callsFor, answerTo, sizeOf, Stop, stops, stopFrom, stopOf}
 use Rattle.standard.proofs.Choice.{if-both}
 use Rattle.standard.proofs.Utf8.{read-length, end-length}
 use Rattle.standard.proofs.Skips.{drop-pred, stop-skip}
 
 -- A source stops where its first character calls for an answer; where that calls for none, it stops where the rest does.
-pub stop-unfold : (context : Context) (place : ℕ) (s : List ℕ) → 0 < length s
-    → stopFrom context 0 place s ≡ (if eqb (callsFor context (readChar s)) done
-    then stopFrom context 0 (place + sizeOf (readChar s)) (drop (sizeOf (readChar s)) s)
-    else stops (callsFor context (readChar s)) place)
+pub stop-unfold : (calls : ℕ → ℕ) (place : ℕ) (s : List ℕ) → 0 < length s
+    → stopFrom calls 0 place s ≡ (if eqb (answerTo calls (readChar s)) done
+    then stopFrom calls 0 (place + sizeOf (readChar s)) (drop (sizeOf (readChar s)) s)
+    else stops (answerTo calls (readChar s)) place)
 unfolding stopFrom
-stop-unfold context place [] h = absurd (omega arith)
-stop-unfold context place (b ∷ s) h = go (readChar (b ∷ s)) refl
+stop-unfold calls place [] h = absurd (omega arith)
+stop-unfold calls place (b ∷ s) h = go (readChar (b ∷ s)) refl
   where
     or-stops : CharRead → Stop → Stop
-    or-stops r rest = if eqb (callsFor context r) done then rest else stops (callsFor context r) place
+    or-stops r rest = if eqb (answerTo calls r) done then rest else stops (answerTo calls r) place
 
-    go : (r : CharRead) → readChar (b ∷ s) ≡ r → or-stops r (stopFrom context (sizeOf r - 1) (suc place) s)
-        ≡ or-stops r (stopFrom context 0 (place + sizeOf r) (drop (sizeOf r) (b ∷ s)))
+    go : (r : CharRead) → readChar (b ∷ s) ≡ r → or-stops r (stopFrom calls (sizeOf r - 1) (suc place) s)
+        ≡ or-stops r (stopFrom calls 0 (place + sizeOf r) (drop (sizeOf r) (b ∷ s)))
     go (Char c n) e =
         let w = read-length (b ∷ s) c n e in
         let after : suc place + (n - 1) ≡ place + n = omega arith in
         ap (or-stops (Char c n))
-        (stop-skip context (n - 1) (suc place) s (omega arith)
-        ∙ ap₂ (λ (p : ℕ) (l : List ℕ). stopFrom context 0 p l) after (drop-pred n b s (w .0)))
+        (stop-skip calls (n - 1) (suc place) s (omega arith)
+        ∙ ap₂ (λ (p : ℕ) (l : List ℕ). stopFrom calls 0 p l) after (drop-pred n b s (w .0)))
     go (Incomplete n) e = refl
     go (Illformed n) e = refl
     go End e = absurd (omega (arith, end-length (b ∷ s) e))
@@ -46,21 +46,21 @@ abbrev Within : ℕ → Stop → Type 0
 Within end r = (r .place ≤ end) × (r .answer ≡ done → r .place ≡ end)
 
 -- A source stops within its bytes.
-stop-within : (context : Context) (k place : ℕ) (s : List ℕ) → Within (place + length s) (stopFrom context k place s)
+stop-within : (calls : ℕ → ℕ) (k place : ℕ) (s : List ℕ) → Within (place + length s) (stopFrom calls k place s)
 unfolding stopFrom
-stop-within context zero place [] = (omega arith, λ e. omega arith)
-stop-within context (suc k) place [] = (omega arith, λ e. omega arith)
-stop-within context zero place (b ∷ s) =
-    let w = stop-within context (sizeOf (readChar (b ∷ s)) - 1) (suc place) s in
-    if-both (Within (place + length (b ∷ s))) (eqb (callsFor context (readChar (b ∷ s))) done) _ _
+stop-within calls zero place [] = (omega arith, λ e. omega arith)
+stop-within calls (suc k) place [] = (omega arith, λ e. omega arith)
+stop-within calls zero place (b ∷ s) =
+    let w = stop-within calls (sizeOf (readChar (b ∷ s)) - 1) (suc place) s in
+    if-both (Within (place + length (b ∷ s))) (eqb (answerTo calls (readChar (b ∷ s))) done) _ _
     (λ t. (omega arith, λ e. omega (arith, w .1 e))) (λ f. (omega arith, λ e. absurd (eqb-false _ _ f e)))
-stop-within context (suc k) place (b ∷ s) =
-    let w = stop-within context k (suc place) s in (omega arith, λ e. omega (arith, w .1 e))
+stop-within calls (suc k) place (b ∷ s) =
+    let w = stop-within calls k (suc place) s in (omega arith, λ e. omega (arith, w .1 e))
 
 -- The covered part of a source is not longer than the source.
 pub stop-place : (context : Context) (s : List ℕ) → stopOf context s .place ≤ length s
-stop-place context s = omega (arith, stop-within context 0 0 s .0)
+stop-place context s = omega (arith, stop-within (callsFor context) 0 0 s .0)
 
 -- A source that is done is covered whole.
 pub stop-done : (context : Context) (s : List ℕ) → stopOf context s .answer ≡ done → stopOf context s .place ≡ length s
-stop-done context s e = omega (arith, stop-within context 0 0 s .1 e)
+stop-done context s e = omega (arith, stop-within (callsFor context) 0 0 s .1 e)

@@ -15,12 +15,16 @@ use Rattle.standard.specs.Errors.{Error, placed}
 use Rattle.standard.specs.Names.{Name}
 use Rattle.standard.specs.Pieces.{Piece, pieceAt}
 
--- The answer that the next character calls for, in the order 1, 2, 7; 0 where reading goes on.
-abbrev pub callsFor : Context → CharRead → ℕ
-callsFor context (Char c n) = if refused context c then nul else if ends context c then context-end else done
-callsFor context (Incomplete n) = ill-formed
-callsFor context (Illformed n) = ill-formed
-callsFor context End = done
+-- The answer that a character of a source calls for: 2 for NUL, 7 for the context's end, 0 where reading goes on.
+abbrev pub callsFor : Context → ℕ → ℕ
+callsFor context c = if refused context c then nul else if ends context c then context-end else done
+
+-- The answer that what is read calls for, where characters call for theirs: 1 for bytes that are no character.
+abbrev pub answerTo : (ℕ → ℕ) → CharRead → ℕ
+answerTo calls (Char c n) = calls c
+answerTo calls (Incomplete n) = ill-formed
+answerTo calls (Illformed n) = ill-formed
+answerTo calls End = done
 
 -- How many bytes the next character has.
 abbrev pub sizeOf : CharRead → ℕ
@@ -37,17 +41,17 @@ pub record Stop : Type 0 where
 abbrev pub stops : ℕ → ℕ → Stop
 stops answer place = record { answer = answer; place = place }
 
--- Where a source stops whose next character begins after skip bytes, with place bytes before it.
-unfoldable pub stopFrom : Context → (skip place : ℕ) → List ℕ → Stop
-stopFrom context skip place [] = stops done place
-stopFrom context zero place (b ∷ s) =
+-- Where bytes stop whose next character begins after skip of them, with place bytes before them.
+unfoldable pub stopFrom : (calls : ℕ → ℕ) (skip place : ℕ) → List ℕ → Stop
+stopFrom calls skip place [] = stops done place
+stopFrom calls zero place (b ∷ s) =
     let r : CharRead = readChar (b ∷ s) in
-    if eqb (callsFor context r) done then stopFrom context (sizeOf r - 1) (suc place) s else stops (callsFor context r) place
-stopFrom context (suc skip) place (b ∷ s) = stopFrom context skip (suc place) s
+    if eqb (answerTo calls r) done then stopFrom calls (sizeOf r - 1) (suc place) s else stops (answerTo calls r) place
+stopFrom calls (suc skip) place (b ∷ s) = stopFrom calls skip (suc place) s
 
 -- Where a source stops.
 abbrev pub stopOf : Context → List ℕ → Stop
-stopOf context s = stopFrom context 0 0 s
+stopOf context s = stopFrom (callsFor context) 0 0 s
 
 -- The covered part of a source.
 abbrev pub covered : Context → List ℕ → List ℕ

@@ -1,0 +1,79 @@
+-- Runs of ASCII bytes: each is a character of its own, so a run is read at once.
+use Prim.Native.Nat.{ℕ, zero, suc, _+_, _-_, _<_}
+use Prim.Native.Char.{code}
+use mathlib.Core.Path.{_≡_, refl, sym, _∙_, ap, ap₂}
+use mathlib.Core.List.{List, [], _∷_, _++_}
+use mathlib.Core.Bool.{Bool, true, false}
+use native.Mathlib.Omega.{arith}
+use lib.Dec.{ltb, eqb}
+use lib.ListN.{length, take, drop}
+use borrow.Author.Tests.{lt-ltb, eq-eqb}
+use Rattle.standard.specs.declared.Context.{Context}
+use Rattle.standard.specs.declared.characters.CharRead.the-variants.{Char}
+use Rattle.standard.specs.Notation.{if_then_else_, front}
+use Rattle.standard.specs.Utf8.{leadOf, tails, afterLead, readChar}
+use Rattle.standard.specs.Errors.{no-error, placed}
+use Rattle.standard.specs.Classes.{characterCode}
+use Rattle.standard.specs.Answers.{done}
+use Rattle.standard.specs.Names.{Name}
+use Rattle.standard.specs.Pieces.{Piece, piece, character, pieceAt}
+use Rattle.standard.proofs.Fronts.{front-induction}
+use Rattle.standard.specs.Reading.{answerTo, sizeOf, Stop, stops, stopFrom, piecesFrom, pieces, Reading, reading, _⊕_, joined}
+
+-- An ASCII byte is a character of its own.
+pub read-ascii : (b : ℕ) (s : List ℕ) → b < 0x80 → readChar (b ∷ s) ≡ Char b 1
+unfolding readChar afterLead tails
+read-ascii b s h = rw (lt-ltb b 0x80 h)
+
+-- An ASCII byte that calls for nothing does not stop reading.
+stop-ascii : (calls : ℕ → ℕ) (b : ℕ) (s : List ℕ) (place : ℕ) → b < 0x80 → calls b ≡ done
+    → stopFrom calls 0 place (b ∷ s) ≡ stopFrom calls 0 (suc place) s
+unfolding stopFrom
+stop-ascii calls b s place h e = rw (read-ascii b s h, eq-eqb (calls b) done e)
+
+-- A run of them does not.
+pub stop-run : (calls : ℕ → ℕ) (p : ℕ → Bool) → ((b : ℕ) → p b ≡ true → (b < 0x80) × (calls b ≡ done)) → (s : List ℕ) (place : ℕ)
+    → stopFrom calls 0 place s ≡ stopFrom calls 0 (place + length (front p s)) (drop (length (front p s)) s)
+stop-run calls p quiet =
+    front-induction p (λ u s. (place : ℕ) → stopFrom calls 0 place s ≡ stopFrom calls 0 (place + length u) (drop (length u) s))
+    (λ s place. ap (λ (n : ℕ). stopFrom calls 0 n s) (omega arith)) more
+  where
+    more : (b : ℕ) (u s : List ℕ) → p b ≡ true
+        → ((place : ℕ) → stopFrom calls 0 place s ≡ stopFrom calls 0 (place + length u) (drop (length u) s))
+        → (place : ℕ) → stopFrom calls 0 place (b ∷ s) ≡ stopFrom calls 0 (place + suc (length u)) (drop (length u) s)
+    more b u s e rest place =
+        stop-ascii calls b s place (quiet b e .0) (quiet b e .1) ∙ rest (suc place)
+        ∙ ap (λ (n : ℕ). stopFrom calls 0 n (drop (length u) s)) (omega arith)
+
+-- A byte that stands for itself without an error: ASCII, no CR, no `&`, and of no class that has an error.
+abbrev pub Plain : ℕ → Type 0
+Plain b = (b < 0x80) × (eqb b (code "\r") ≡ false) × (eqb b (code "&") ≡ false) × (characterCode b ≡ no-error)
+
+-- Such a byte is a piece of its own.
+plain-piece : (names : List Name) (context : Context) (b : ℕ) (s : List ℕ) → Plain b → pieceAt names context (b ∷ s) ≡ piece 1 (b ∷ []) []
+unfolding pieceAt
+plain-piece names context b s h = rw (h .1, h .2, read-ascii b s (h .0), h .3)
+
+joined-plain : (names : List Name) (context : Context) (b : ℕ) (s : List ℕ) (offset : ℕ) → Plain b
+    → joined offset (pieces names context (b ∷ s)) ≡ reading (b ∷ []) [] ⊕ joined (offset + 1) (pieces names context s)
+unfolding piecesFrom joined placed
+joined-plain names context b s offset h = rw (plain-piece names context b s h)
+
+-- A run of them is its own text.
+pub joined-run : (names : List Name) (context : Context) (p : ℕ → Bool) → ((b : ℕ) → p b ≡ true → Plain b) → (s : List ℕ) (offset : ℕ)
+    → joined offset (pieces names context s)
+    ≡ reading (front p s) [] ⊕ joined (offset + length (front p s)) (pieces names context (drop (length (front p s)) s))
+joined-run names context p plain =
+    front-induction p
+    (λ u s. (offset : ℕ) → joined offset (pieces names context s)
+    ≡ reading u [] ⊕ joined (offset + length u) (pieces names context (drop (length u) s)))
+    (λ s offset. ap (λ (n : ℕ). joined n (pieces names context s)) (omega arith)) more
+  where
+    more : (b : ℕ) (u s : List ℕ) → p b ≡ true
+        → ((offset : ℕ) → joined offset (pieces names context s) ≡ reading u [] ⊕ joined (offset + length u) (pieces names context (drop (length u) s)))
+        → (offset : ℕ) → joined offset (pieces names context (b ∷ s))
+        ≡ reading (b ∷ u) [] ⊕ joined (offset + suc (length u)) (pieces names context (drop (length u) s))
+    more b u s e rest offset =
+        joined-plain names context b s offset (plain b e)
+        ∙ ap (λ (r : Reading). reading (b ∷ []) [] ⊕ r)
+        (rest (offset + 1) ∙ ap (λ (n : ℕ). reading u [] ⊕ joined n (pieces names context (drop (length u) s))) (omega arith))
