@@ -39,11 +39,12 @@ sorted : rising builtin ≡ true
 unfolding computing rising before
 sorted = refl
 
--- Letters and digits, and then nothing or one `;`.
+-- One or more letters and digits, and then nothing or one `;`.
 tidyWord : List ℕ → Bool
-tidyWord [] = true
-tidyWord (c ∷ []) = alphanumeric c || eqb c (code ";")
-tidyWord (c ∷ d ∷ word) = alphanumeric c && tidyWord (d ∷ word)
+tidyWord [] = false
+tidyWord (c ∷ []) = alphanumeric c
+tidyWord (c ∷ d ∷ []) = alphanumeric c && (alphanumeric d || eqb d (code ";"))
+tidyWord (c ∷ d ∷ e ∷ word) = alphanumeric c && tidyWord (d ∷ e ∷ word)
 
 closes : List ℕ → Bool
 closes [] = false

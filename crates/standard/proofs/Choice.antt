@@ -1,7 +1,7 @@
 -- Laws of a choice by a test, and of tests on numbers.
 use Prim.Native.Nat.{ℕ, _≤_, _<_}
 use mathlib.Core.Path.{_≡_, refl, sym, subst}
-use mathlib.Core.Bool.{Bool, true, false, _&&_, _||_}
+use mathlib.Core.Bool.{Bool, true, false, _&&_, _||_, and-eq-true-iff}
 use mathlib.Core.Logic.{_⊎_, inl, inr, ⊎-elim, ⊎-map}
 use native.Mathlib.Omega.{arith}
 use lib.Dec.{T, ltb, leb, eqb}
@@ -31,8 +31,7 @@ below? a b = ⊎-map (ltb-true a b) (ltb-false a b) (test? (ltb a b))
 
 -- Where both tests hold at once, each holds.
 pub and-true : (t u : Bool) → t && u ≡ true → (t ≡ true) × (u ≡ true)
-and-true true u e = (refl, e)
-and-true false u e = no-way (sym e)
+and-true t u e = and-eq-true-iff t u .0 e
 
 -- Where one of two tests holds, the first holds or the second.
 pub or-true : (t u : Bool) → t || u ≡ true → (t ≡ true) ⊎ (u ≡ true)

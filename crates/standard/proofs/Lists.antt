@@ -44,16 +44,16 @@ c1-line = refl
 unfoldable pub meaningListed : ℕ → Meaning
 meaningListed n =
     if eqb n 0 || between 0xD800 0xDFFF n || ltb 0x10FFFF n then means 0xFFFD 3
-    else if between 0x80 0x9F n then means (replacedBy replacements n) 3
+    else if between 0x80 0x9F n then means (replacedBy (rowsOf 27 c1Line) n) 3
     else if between 0x1 0x8 n || eqb n 0xB || between 0xD 0x1F n || eqb n 0x7F || noncharacters n then means n 3
     else means n 0
 
 -- A test that passes below k passes at each number below k.
-below : ℕ → (ℕ → Bool) → Bool
+unfoldable pub below : ℕ → (ℕ → Bool) → Bool
 below zero p = true
 below (suc k) p = p k && below k p
 
-below-at : (k : ℕ) (p : ℕ → Bool) (n : ℕ) → below k p ≡ true → n < k → p n ≡ true
+pub below-at : (k : ℕ) (p : ℕ → Bool) (n : ℕ) → below k p ≡ true → n < k → p n ≡ true
 unfolding below
 below-at zero p n e h = absurd (omega arith)
 below-at (suc k) p n e h = go (eqb n k) refl (below-at k p n (and-eq-true-iff (p k) (below k p) .0 e .1))
@@ -88,7 +88,7 @@ same-is a b e =
     λ i. means (eqb-true (a .char) (b .char) (f .0) i) (eqb-true (a .code) (b .code) (f .1) i)
 
 meanings-low : below 0x100 (λ n. same (meaningOf n) (meaningListed n)) ≡ true
-unfolding computing below same meaningListed
+unfolding computing below same meaningListed rowsOf c1Line
 meanings-low = refl
 
 meanings-high : (n : ℕ) → 0x100 ≤ n → meaningOf n ≡ meaningListed n

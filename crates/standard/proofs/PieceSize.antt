@@ -45,7 +45,7 @@ use Rattle.standard.proofs.Every.{All, every-all}
 use Rattle.standard.proofs.Fronts.{front-induction, front-length}
 use Rattle.standard.proofs.Utf8.{read-length}
 use Rattle.standard.proofs.RoundTrip.{encode-short, encode-three}
-use Rattle.standard.proofs.Lists.{noncharacters, meaningListed, meanings}
+use Rattle.standard.proofs.Lists.{noncharacters, c1-line, meaningListed, meanings}
 use Rattle.standard.proofs.Narrow.{Narrow, FoundFits, longest-fits}
 
 -- A piece fits in room bytes: it has some of them, no more errors than bytes, and with narrow names no longer a text.
@@ -81,7 +81,7 @@ replaced-cases P (row ∷ rows) n all h =
 meaning-short : (n : ℕ) → n < 0x10000 → meaningOf n .char < 0x10000
 unfolding meaningListed replacements
 meaning-short n h =
-    rw (meanings n)
+    rw (meanings n, meaningListed, ← c1-line)
     (if-both Short (eqb n 0 || between 0xD800 0xDFFF n || ltb 0x10FFFF n) _ _ (λ t. omega arith)
     (λ f. if-both Short (between 0x80 0x9F n) _ _ (λ t. replaced)
     (λ f. if-both Short (between 0x1 0x8 n || eqb n 0xB || between 0xD 0x1F n || eqb n 0x7F || noncharacters n) _ _ (λ t. h) (λ f. h))))

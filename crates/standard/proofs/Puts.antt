@@ -1,13 +1,14 @@
 -- Laws of writing into a room: what two writers one after the other write is what one would.
 use Prim.Native.Nat.{ℕ, suc, _+_, _≤_, _<_}
 use mathlib.Core.Path.{_≡_, refl, sym, _∙_, ap}
-use mathlib.Core.List.{List, [], _∷_, _++_}
+use mathlib.Core.List.{List, [], _∷_, _++_, append-assoc, append-nil}
 use native.Mathlib.Omega.{arith}
 use native.Mathlib.Numerals.{add-one}
 use lib.ListN.{length, getD, drop, set, length-append, drop-of-length-le}
 use lib.Seq.{drop-cons, sets, length-sets}
 use Rattle.standard.specs.Errors.{Error, numbers}
-use Rattle.standard.specs.Rooms.{Put}
+use Rattle.standard.specs.Reading.{Reading, reading, _⊕_}
+use Rattle.standard.specs.Rooms.{Put, Wrote}
 
 -- Joined values are written one after the other.
 pub sets-append : (l : List ℕ) (i : ℕ) (u v : List ℕ) → sets l i (u ++ v) ≡ sets (sets l i u) (i + length u) v
@@ -54,3 +55,29 @@ pub numbers-length : (a : List Error) → length (numbers a) ≡ length a + leng
 unfolding numbers
 numbers-length [] = refl
 numbers-length (e ∷ a) = omega (arith, numbers-length a)
+
+-- No reading is written.
+pub wrote-none : (text : List ℕ) (w : ℕ) (errors : List ℕ) (e : ℕ) → Wrote (reading [] []) text w text w errors e errors e
+unfolding numbers
+wrote-none text w errors e = record { texts = put-none text w; numbers-of = put-none errors e }
+
+-- Text alone is written.
+pub wrote-text : {t text text′ : List ℕ} {w w′ : ℕ} (errors : List ℕ) (e : ℕ) → Put text w t text′ w′ → Wrote (reading t []) text w text′ w′ errors e errors e
+unfolding numbers
+wrote-text errors e p = record { texts = p; numbers-of = put-none errors e }
+
+-- Two readings are written one after the other.
+pub wrote-join : {a b : Reading} {t t′ t″ : List ℕ} {w w′ w″ : ℕ} {n n′ n″ : List ℕ} {e e′ e″ : ℕ} → Wrote a t w t′ w′ n e n′ e′
+    → Wrote b t′ w′ t″ w″ n′ e′ n″ e″ → Wrote (a ⊕ b) t w t″ w″ n e n″ e″
+wrote-join {a} {b} {t} {t′} {t″} {w} {w′} {w″} {n} {n′} {n″} {e} {e′} {e″} x y = record {
+  texts = put-join (x .texts) (y .texts);
+  numbers-of = rw (numbers-append (a .errors) (b .errors)) (put-join (x .numbers-of) (y .numbers-of));
+}
+
+-- Joining readings is associative.
+pub ⊕-assoc : (a b c : Reading) → (a ⊕ b) ⊕ c ≡ a ⊕ (b ⊕ c)
+⊕-assoc a b c = λ i. reading (append-assoc (a .text) (b .text) (c .text) i) (append-assoc (a .errors) (b .errors) (c .errors) i)
+
+-- Nothing after a reading changes nothing.
+pub ⊕-none : (a : Reading) → a ⊕ reading [] [] ≡ a
+⊕-none a = λ i. reading (append-nil (a .text) i) (append-nil (a .errors) i)

@@ -12,7 +12,7 @@ use borrow.Author.Tests.{lt-ltb, le-ltb, eq-eqb, ne-eqb}
 use Rattle.standard.specs.Notation.{if_then_else_, between}
 use Rattle.standard.specs.declared.characters.CharRead.the-variants.{Char}
 use Rattle.standard.specs.declared.characters.Lead.{Lead}
-use Rattle.standard.specs.Utf8.{leadOf, tails, afterLead, readChar, scalar, octets, encode}
+use Rattle.standard.specs.Utf8.{leadOf, tails, afterLead, readChar, scalar, octets, encode, written}
 use Rattle.standard.proofs.Choice.{facts, if-both, or-true, below?, inside-between, between-true}
 use Rattle.standard.proofs.Utf8.{mark, upper, Next, Size}
 
@@ -120,10 +120,6 @@ unfolding readChar
 read-octets c s e =
     let k = scalar-sized c e in
     rw (octets-sixes (k .0) c (k .1 .0), length-sixes) (lead-sixes (k .0) _ c s (k .1 .0) refl ∙ ap (Char c) (omega arith))
-
--- What a number is written as: itself, or U+FFFD for what is no scalar value.
-abbrev pub written : ℕ → ℕ
-written c = if scalar c then c else 0xFFFD
 
 -- Every number is written as a scalar value.
 written-scalar : (c : ℕ) → scalar (written c) ≡ true

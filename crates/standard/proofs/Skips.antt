@@ -5,7 +5,8 @@ use mathlib.Core.List.{List, [], _∷_}
 use native.Mathlib.Omega.{arith}
 use native.Mathlib.Numerals.{sub-one}
 use lib.Dec.{leb}
-use lib.ListN.{length, drop}
+use lib.ListN.{length, take, drop, length-drop}
+use lib.Seq.{take-all}
 use Rattle.standard.specs.declared.Context.{Context}
 use Rattle.standard.specs.Notation.{if_then_else_}
 use Rattle.standard.specs.Names.{Name, recordAt, recordsFrom}
@@ -16,8 +17,12 @@ pub drop-pred : (n b : ℕ) (s : List ℕ) → 1 ≤ n → drop (n - 1) s ≡ dr
 drop-pred zero b s h = absurd (omega arith)
 drop-pred (suc n) b s h = rw (sub-one (suc n))
 
+-- The part of a slice from a place on is the list without what stands before.
+pub rest-from : (s : List ℕ) (a : ℕ) → take (length s - a) (drop a s) ≡ drop a s
+rest-from s a = take-all (length s - a) (drop a s) (simp length-drop (omega arith))
+
 -- A function that skips one element by one skips the first k of a list.
-skip-drops {ℓ} : {A : Type ℓ} (f : ℕ → List ℕ → A) → ((k : ℕ) → f k [] ≡ f 0 []) → ((k b : ℕ) (s : List ℕ) → f (suc k) (b ∷ s) ≡ f k s)
+pub skip-drops {ℓ} : {A : Type ℓ} (f : ℕ → List ℕ → A) → ((k : ℕ) → f k [] ≡ f 0 []) → ((k b : ℕ) (s : List ℕ) → f (suc k) (b ∷ s) ≡ f k s)
     → (k : ℕ) (s : List ℕ) → f k s ≡ f 0 (drop k s)
 skip-drops f none one zero s = refl
 skip-drops f none one (suc k) [] = none (suc k)

@@ -41,6 +41,15 @@ stop-unfold calls place (b ∷ s) h = go (readChar (b ∷ s)) refl
     go (Illformed n) e = refl
     go End e = absurd (omega (arith, end-length (b ∷ s) e))
 
+-- The same where there may be no byte.
+pub stop-read : (calls : ℕ → ℕ) (place : ℕ) (s : List ℕ)
+    → stopFrom calls 0 place s ≡ (if eqb (answerTo calls (readChar s)) done
+    then stopFrom calls 0 (place + sizeOf (readChar s)) (drop (sizeOf (readChar s)) s)
+    else stops (answerTo calls (readChar s)) place)
+unfolding stopFrom readChar
+stop-read calls place [] = ap (stops done) (omega arith)
+stop-read calls place (b ∷ s) = stop-unfold calls place (b ∷ s) (omega arith)
+
 -- A stop is within the bytes up to end, and where all is done it is after them all.
 abbrev Within : ℕ → Stop → Type 0
 Within end r = (r .place ≤ end) × (r .answer ≡ done → r .place ≡ end)

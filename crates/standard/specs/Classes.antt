@@ -1,4 +1,4 @@
--- The classes of characters: Infra, 4.5 (code points), and WHATWG HTML, 13.2.3.5 (preprocessing the input stream).
+-- The classes of characters: the Infra standard, 'Code points', and WHATWG HTML, 13.2.3.5, 'Preprocessing the input stream'.
 use Prim.Native.Nat.{ℕ, _%_}
 use Prim.Native.Char.{code}
 use mathlib.Core.Bool.{Bool, not, _||_, _&&_}

@@ -11,7 +11,7 @@ abbrev pub ends : Context → ℕ → Bool
 ends Text c = eqb c (code "<")
 ends Attribute c = eqb c (code "\"")
 
--- A reference is read as part of an attribute (WHATWG HTML, 13.2.5.72).
+-- A reference is read as part of an attribute (WHATWG HTML, 13.2.5, 'consumed as part of an attribute').
 abbrev pub inAttribute : Context → Bool
 inAttribute Text = false
 inAttribute Attribute = true

@@ -4,7 +4,7 @@ use mathlib.Core.List.{List, [], _∷_}
 use lib.Dec.{eqb}
 use Rattle.standard.specs.Notation.{if_then_else_}
 
--- Not one of the standard's: no error.
+-- The codes; 0 stands for no error, and the others for the errors of their names.
 abbrev pub no-error : ℕ
 no-error = 0
 
@@ -38,7 +38,7 @@ control-character-in-input-stream = 5
 abbrev pub noncharacter-in-input-stream : ℕ
 noncharacter-in-input-stream = 5
 
--- The codes that one code stands for: none or itself.
+-- A code as a list: empty for no error.
 abbrev pub listed : ℕ → List ℕ
 listed code = if eqb code no-error then [] else code ∷ []
 
@@ -47,6 +47,7 @@ pub record Error : Type 0 where
   pub code : ℕ
   pub place : ℕ
 
+-- An error, given its code and its place.
 abbrev pub error : ℕ → ℕ → Error
 error code place = record { code = code; place = place }
 

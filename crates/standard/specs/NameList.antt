@@ -11,8 +11,8 @@ abbrev pub both : String → ℕ → List Name
 both word first = name (bytes word) first 0 ∷ name (bytes word ++ code ";" ∷ []) first 0 ∷ []
 
 -- A word that is a name only as it stands, with its `;`.
-abbrev pub closed : String → ℕ → ℕ → List Name
-closed word first second = name (bytes word) first second ∷ []
+abbrev pub only : String → ℕ → ℕ → List Name
+only word first second = name (bytes word) first second ∷ []
 
 -- The names, sorted by their bytes.
 unfoldable pub builtin : List Name
@@ -25,14 +25,14 @@ builtin =
     ++ both "Oslash" 0xD8 ++ both "Otilde" 0xD5 ++ both "Ouml" 0xD6 ++ both "QUOT" 0x22 ++ both "REG" 0xAE
     ++ both "THORN" 0xDE ++ both "Uacute" 0xDA ++ both "Ucirc" 0xDB ++ both "Ugrave" 0xD9 ++ both "Uuml" 0xDC
     ++ both "Yacute" 0xDD ++ both "aacute" 0xE1 ++ both "acirc" 0xE2 ++ both "acute" 0xB4 ++ both "aelig" 0xE6
-    ++ both "agrave" 0xE0 ++ both "amp" 0x26 ++ closed "apos;" 0x27 0 ++ both "aring" 0xE5 ++ both "atilde" 0xE3
+    ++ both "agrave" 0xE0 ++ both "amp" 0x26 ++ only "apos;" 0x27 0 ++ both "aring" 0xE5 ++ both "atilde" 0xE3
     ++ both "auml" 0xE4 ++ both "brvbar" 0xA6 ++ both "ccedil" 0xE7 ++ both "cedil" 0xB8 ++ both "cent" 0xA2
-    ++ closed "centerdot;" 0xB7 0 ++ both "copy" 0xA9 ++ both "curren" 0xA4 ++ both "deg" 0xB0 ++ both "divide" 0xF7
+    ++ only "centerdot;" 0xB7 0 ++ both "copy" 0xA9 ++ both "curren" 0xA4 ++ both "deg" 0xB0 ++ both "divide" 0xF7
     ++ both "eacute" 0xE9 ++ both "ecirc" 0xEA ++ both "egrave" 0xE8 ++ both "eth" 0xF0 ++ both "euml" 0xEB
-    ++ closed "fjlig;" 0x66 0x6A ++ both "frac12" 0xBD ++ both "frac14" 0xBC ++ both "frac34" 0xBE ++ both "gt" 0x3E
+    ++ only "fjlig;" 0x66 0x6A ++ both "frac12" 0xBD ++ both "frac14" 0xBC ++ both "frac34" 0xBE ++ both "gt" 0x3E
     ++ both "iacute" 0xED ++ both "icirc" 0xEE ++ both "iexcl" 0xA1 ++ both "igrave" 0xEC ++ both "iquest" 0xBF
     ++ both "iuml" 0xEF ++ both "laquo" 0xAB ++ both "lt" 0x3C ++ both "macr" 0xAF ++ both "micro" 0xB5
-    ++ both "middot" 0xB7 ++ both "nbsp" 0xA0 ++ both "not" 0xAC ++ closed "notin;" 0x2209 0 ++ both "ntilde" 0xF1
+    ++ both "middot" 0xB7 ++ both "nbsp" 0xA0 ++ both "not" 0xAC ++ only "notin;" 0x2209 0 ++ both "ntilde" 0xF1
     ++ both "oacute" 0xF3 ++ both "ocirc" 0xF4 ++ both "ograve" 0xF2 ++ both "ordf" 0xAA ++ both "ordm" 0xBA
     ++ both "oslash" 0xF8 ++ both "otilde" 0xF5 ++ both "ouml" 0xF6 ++ both "para" 0xB6 ++ both "plusmn" 0xB1
     ++ both "pound" 0xA3 ++ both "quot" 0x22 ++ both "raquo" 0xBB ++ both "reg" 0xAE ++ both "sect" 0xA7

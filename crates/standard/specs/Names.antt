@@ -14,6 +14,7 @@ pub record Name : Type 0 where
   pub first : ℕ
   pub second : ℕ
 
+-- A name, given its word and its characters.
 abbrev pub name : List ℕ → ℕ → ℕ → Name
 name word first second = record { word = word; first = first; second = second }
 
@@ -28,10 +29,11 @@ abbrev pub charRef : ℕ → ℕ → CharRef
 charRef first second =
     record { chars = first ∷ second ∷ []; «num_chars» = if eqb second 0 then 1 else 2 }
 
--- No name, and a name, as what was found.
+-- No name, as what was found.
 abbrev pub nothing : Found
 nothing = record { len = 0; reference = record { chars = 0 ∷ 0 ∷ []; «num_chars» = 0 } }
 
+-- A name, as what was found.
 abbrev pub foundAs : Name → Found
 foundAs n = record { len = length (n .word); reference = charRef (n .first) (n .second) }
 
@@ -39,6 +41,7 @@ foundAs n = record { len = length (n .word); reference = charRef (n .first) (n .
 unfoldable pub longer : Found → Name → List ℕ → Found
 longer found n s = if ltb (found .len) (length (n .word)) && stands (n .word) s then foundAs n else found
 
+-- The longest of what was found and the names that stand at the front of s.
 unfoldable pub longestFrom : Found → List Name → List ℕ → Found
 longestFrom found [] s = found
 longestFrom found (n ∷ names) s = longestFrom (longer found n s) names s

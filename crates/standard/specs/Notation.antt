@@ -1,4 +1,4 @@
--- The notation of the definitions: a choice by a test, and a range.
+-- The notation of the definitions: this project's own, with no source.
 use Prim.Native.Nat.{ℕ}
 use mathlib.Core.List.{List, [], _∷_}
 use mathlib.Core.Bool.{Bool, true, false, _&&_}

@@ -54,6 +54,7 @@ pub record Meaning : Type 0 where
   pub char : ℕ
   pub code : ℕ
 
+-- A meaning, given its character and its code.
 abbrev pub means : ℕ → ℕ → Meaning
 means char code = record { char = char; code = code }
 

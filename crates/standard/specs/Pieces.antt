@@ -30,10 +30,11 @@ pub record Piece : Type 0 where
   pub text : List ℕ
   pub codes : List ℕ
 
+-- A piece, given its size, its text and its codes.
 abbrev pub piece : ℕ → List ℕ → List ℕ → Piece
 piece size text codes = record { size = size; text = text; codes = codes }
 
--- A character that stands for itself. In a covered part every byte is of one; what is none is a byte without text.
+-- A character that stands for itself. (A covered part has nothing else; elsewhere a byte of no character has no text.)
 abbrev pub character : CharRead → List ℕ → Piece
 character (Char c n) s = piece n (take n s) (listed (characterCode c))
 character (Incomplete n) s = piece 1 [] []
@@ -44,18 +45,19 @@ character End s = piece 1 [] []
 abbrev pub ampersand : ℕ → Piece
 ampersand error = piece 1 (code "&" ∷ []) (listed error)
 
--- A numeric reference that takes size bytes without its `;`.
+-- A numeric reference of size bytes before its `;`, if that is next.
 abbrev pub numbered : ℕ → Meaning → Bool → Piece
-numbered size m closed =
-    if closed then piece (suc size) (encode (m .char)) (listed (m .code))
+numbered size m semicolon =
+    if semicolon then piece (suc size) (encode (m .char)) (listed (m .code))
     else piece size (encode (m .char)) (missing-semicolon-after-character-reference ∷ listed (m .code))
 
--- The digits that stand after `&#` or `&#x`, which is intro bytes long, and before s.
+-- Digits after `&#` or `&#x`, which are intro bytes, with s beginning with the digits.
 unfoldable pub digitsThen : (base intro : ℕ) → List ℕ → List ℕ → Piece
 digitsThen base intro [] s = ampersand absence-of-digits-in-numeric-character-reference
 digitsThen base intro (d ∷ ds) s =
     numbered (intro + length (d ∷ ds)) (meaningOf (number base (d ∷ ds))) (next (code ";") (drop (length (d ∷ ds)) s))
 
+-- The same with all the digits at the front of s.
 unfoldable pub digitsAt : (base intro : ℕ) → List ℕ → Piece
 digitsAt base intro s = digitsThen base intro (front (isDigit base) s) s
 

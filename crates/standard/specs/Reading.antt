@@ -1,4 +1,4 @@
--- The reading of a whole source: where it stops, its pieces, and their joined text and errors.
+-- Document 01, 'What the bench reads' and 'Pieces': where a source stops, its pieces, and their joined text and errors.
 use Prim.Native.Nat.{ℕ, zero, suc, _+_, _-_}
 use mathlib.Core.List.{List, [], _∷_, _++_}
 use mathlib.Core.Bool.{Bool, _||_}
@@ -26,7 +26,7 @@ answerTo calls (Incomplete n) = ill-formed
 answerTo calls (Illformed n) = ill-formed
 answerTo calls End = done
 
--- How many bytes the next character has.
+-- How many bytes of a character stand there.
 abbrev pub sizeOf : CharRead → ℕ
 sizeOf (Char c n) = n
 sizeOf (Incomplete n) = n
@@ -38,6 +38,7 @@ pub record Stop : Type 0 where
   pub answer : ℕ
   pub place : ℕ
 
+-- A stop, given its answer and its place.
 abbrev pub stops : ℕ → ℕ → Stop
 stops answer place = record { answer = answer; place = place }
 
@@ -53,11 +54,11 @@ stopFrom calls (suc skip) place (b ∷ s) = stopFrom calls skip (suc place) s
 abbrev pub stopOf : Context → List ℕ → Stop
 stopOf context s = stopFrom (callsFor context) 0 0 s
 
--- The covered part of a source.
+-- The covered part of a source that is readable; of another, what stands before its fault.
 abbrev pub covered : Context → List ℕ → List ℕ
 covered context s = take (stopOf context s .place) s
 
--- A source is readable when its covered part has no fault.
+-- A source is readable when no fault stands before its end.
 abbrev pub readable : Context → List ℕ → Bool
 readable context s = eqb (stopOf context s .answer) done || eqb (stopOf context s .answer) context-end
 
@@ -77,6 +78,7 @@ pub record Reading : Type 0 where
   pub text : List ℕ
   pub errors : List Error
 
+-- A reading, given its text and its errors.
 abbrev pub reading : List ℕ → List Error → Reading
 reading text errors = record { text = text; errors = errors }
 
@@ -85,18 +87,23 @@ infixr 60 _⊕_
 abbrev pub _⊕_ : Reading → Reading → Reading
 a ⊕ b = reading (a .text ++ b .text) (a .errors ++ b .errors)
 
+-- What is read of a piece at an offset.
+abbrev pub readingAt : ℕ → Piece → Reading
+readingAt offset p = reading (p .text) (placed offset (p .codes))
+
 -- Pieces joined, the first of them at an offset.
 unfoldable pub joined : ℕ → List Piece → Reading
 joined offset [] = reading [] []
-joined offset (p ∷ ps) = reading (p .text) (placed offset (p .codes)) ⊕ joined (offset + p .size) ps
+joined offset (p ∷ ps) = readingAt offset p ⊕ joined (offset + p .size) ps
 
 -- The reading of a covered source.
 abbrev pub decode : List Name → Context → List ℕ → Reading
 decode names context s = joined 0 (pieces names context s)
 
--- How long the text of n covered bytes can be, and how many errors they can have.
+-- How long the text of n covered bytes can be.
 abbrev pub text-bound : ℕ → ℕ
 text-bound n = n
 
+-- How many errors they can have.
 abbrev pub errors-bound : ℕ → ℕ
 errors-bound n = n

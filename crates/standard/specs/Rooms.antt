@@ -1,11 +1,18 @@
--- What is written into a lent room: values one after the other, with everything else left as it was.
+-- Document 01, 'In every call, room past what was written keeps its contents': what writing into a lent room means.
 use Prim.Native.Nat.{ℕ, _+_}
 use mathlib.Core.Path.{_≡_}
 use mathlib.Core.List.{List}
 use lib.ListN.{length}
 use lib.Seq.{sets}
+use Rattle.standard.specs.Errors.{numbers}
+use Rattle.standard.specs.Reading.{Reading}
 
 -- The values were written into old from at on: new is what the room then holds, and next the place after them.
 pub record Put (old : List ℕ) (at : ℕ) (values new : List ℕ) (next : ℕ) : Type 0 where
   pub next-is : next ≡ at + length values
   pub new-is : new ≡ sets old at values
+
+-- A reading was written into a text room from w on and an error room from e on.
+pub record Wrote (r : Reading) (text : List ℕ) (w : ℕ) (text′ : List ℕ) (w′ : ℕ) (errors : List ℕ) (e : ℕ) (errors′ : List ℕ) (e′ : ℕ) : Type 0 where
+  pub texts : Put text w (r .text) text′ w′
+  pub numbers-of : Put errors e (numbers (r .errors)) errors′ e′

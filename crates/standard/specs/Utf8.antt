@@ -33,7 +33,7 @@ tails (suc need) low high bits len [] = Incomplete len
 tails (suc need) low high bits len (b ∷ s) =
     if between low high b then tails need 0x80 0xBF (bits * 64 + b % 64) (suc len) s else Illformed len
 
--- The same after a first byte.
+-- The bytes after a first byte that says what it says.
 unfoldable pub afterLead : Lead → List ℕ → CharRead
 afterLead Bad s = Illformed 0
 afterLead (Good need low high bits) s = tails need low high bits 1 s
@@ -55,9 +55,13 @@ octets c =
     else if ltb c 0x10000 then (0xE0 + c / 4096) ∷ (0x80 + c / 64 % 64) ∷ (0x80 + c % 64) ∷ []
     else (0xF0 + c / 262144) ∷ (0x80 + c / 4096 % 64) ∷ (0x80 + c / 64 % 64) ∷ (0x80 + c % 64) ∷ []
 
--- The bytes of a number: what is no scalar value is written as U+FFFD.
+-- What is no scalar value is written as U+FFFD.
+abbrev pub written : ℕ → ℕ
+written c = if scalar c then c else 0xFFFD
+
+-- The bytes of a number.
 unfoldable pub encode : ℕ → List ℕ
-encode c = octets (if scalar c then c else 0xFFFD)
+encode c = octets (written c)
 
 -- The bytes of a quoted text.
 unfoldable pub bytes : String → List ℕ

@@ -3,7 +3,7 @@ pub mod characters;
 pub mod names;
 pub mod table;
 
-// Where a source stands in a page: its end, its rule for names without `;` and its numbers in the exports go by this.
+// Where a source stands in a page: its end and the rule for names without `;` go by this.
 pub enum Context {
     Text,
     Attribute,

@@ -1,0 +1,66 @@
+-- Sources at the edges of document 01's rules, as one table, and the theorem that the definitions give exactly these.
+use mathlib.Core.Path.{_≡_, refl}
+use mathlib.Core.List.{List, [], _∷_, map}
+use Rattle.standard.specs.declared.Context.the-variants.{Text, Attribute}
+use Rattle.standard.specs.Answers.{ill-formed, nul}
+use Rattle.standard.specs.Errors.{error}
+use Rattle.standard.specs.Reading.{stops}
+use Rattle.standard.proofs.Computing.{computing}
+use Rattle.demands.proofs.Rows.{Row, rowOf, row, end, left, says, gives}
+
+-- Ends and refusals, with the text of what stands before them.
+abbrev pub closings : List Row
+closings =
+    row Attribute "x\"y" "x" [] (left 1)
+    ∷ row Attribute "x<y" "x<y" [] (end 3)
+    ∷ row Text "x\"<" "x\"" [] (left 2)
+    ∷ row Attribute "&not\"" "¬" (error 2 0 ∷ []) (left 4)
+    ∷ row Text "a\0" "a" [] (stops nul 1)
+    ∷ row Text "<\0" "" [] (left 0)
+    ∷ rowOf Text (0xE2 ∷ []) "" [] (stops ill-formed 0)
+    ∷ rowOf Text (0xE2 ∷ 0x3C ∷ []) "" [] (stops ill-formed 0)
+    ∷ rowOf Text (0x61 ∷ 0xF0 ∷ 0x9F ∷ 0x92 ∷ []) "a" [] (stops ill-formed 1)
+    ∷ rowOf Text (0x61 ∷ 0xED ∷ 0xA0 ∷ 0x80 ∷ []) "a" [] (stops ill-formed 1)
+    ∷ rowOf Text (0xC0 ∷ 0x80 ∷ []) "" [] (stops ill-formed 0)
+    ∷ rowOf Text (0xF5 ∷ []) "" [] (stops ill-formed 0)
+    ∷ []
+
+-- Newlines and characters that stand for themselves.
+abbrev pub characters : List Row
+characters =
+    row Text "a\rb\nc\r\nd\r" "a\nb\nc\nd\n" [] (end 9)
+    ∷ row Text "\r\r\n" "\n\n" [] (end 3)
+    ∷ row Text "\r&#10;" "\n\n" [] (end 6)
+    ∷ row Text "&#13;\n" "\r\n" (error 3 0 ∷ []) (end 6)
+    ∷ row Text "\t\u{b}\u{c}\u{1}" "\t\u{b}\u{c}\u{1}" (error 5 1 ∷ error 5 3 ∷ []) (end 4)
+    ∷ row Text "\u{7f}\u{9f}\u{a0}" "\u{7f}\u{9f}\u{a0}" (error 5 0 ∷ error 5 1 ∷ []) (end 5)
+    ∷ row Text "\u{feff}\u{fdd0}\u{10ffff}" "\u{feff}\u{fdd0}\u{10ffff}" (error 5 3 ∷ error 5 6 ∷ []) (end 10)
+    ∷ []
+
+-- Numbers.
+abbrev pub numbers : List Row
+numbers =
+    row Text "&#Xaf;&#xAF;" "¯¯" [] (end 12)
+    ∷ row Text "&#xg&#a&#" "&#xg&#a&#" (error 1 0 ∷ error 1 4 ∷ error 1 7 ∷ []) (end 9)
+    ∷ row Text "&#65x&#65" "AxA" (error 2 0 ∷ error 2 5 ∷ []) (end 9)
+    ∷ row Text "&#0;&#00065;" "�A" (error 3 0 ∷ []) (end 12)
+    ∷ row Text "&#x10FFFF;" "\u{10ffff}" (error 3 0 ∷ []) (end 10)
+    ∷ row Text "&#xD7FF;&#xD800;" "\u{d7ff}�" (error 3 8 ∷ []) (end 16)
+    ∷ row Text "&#4294967361;" "�" (error 3 0 ∷ []) (end 13)
+    ∷ row Text "&#x81;&#x9F" "\u{81}Ÿ" (error 3 0 ∷ error 2 6 ∷ error 3 6 ∷ []) (end 11)
+    ∷ []
+
+-- Names.
+abbrev pub names : List Row
+names =
+    row Text "&;&Z0;&9z;&z&" "&;&Z0;&9z;&z&" (error 4 2 ∷ error 4 6 ∷ []) (end 13)
+    ∷ row Text "&fjlig;&apos" "fj&apos" [] (end 12)
+    ∷ row Text "&ampx&amp=&amp" "&x&=&" (error 2 0 ∷ error 2 5 ∷ error 2 10 ∷ []) (end 14)
+    ∷ row Attribute "&ampx&amp=&amp&amp1&amp;1" "&ampx&amp=&&amp1&1" (error 2 10 ∷ []) (end 25)
+    ∷ row Attribute "&notit;&notin;&not " "&notit;∉¬ " (error 2 14 ∷ []) (end 19)
+    ∷ []
+
+-- The definitions give what each row says.
+pub edges : (map gives closings ≡ map says closings) × (map gives characters ≡ map says characters) × (map gives numbers ≡ map says numbers) × (map gives names ≡ map says names)
+unfolding computing
+edges = (refl, refl, refl, refl)
