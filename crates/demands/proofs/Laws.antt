@@ -1,22 +1,26 @@
--- What the other theorems lean on: characters, the bounds of a reading, and document 01's lists.
-use Prim.Native.Nat.{ℕ, _≤_}
+-- What the other theorems lean on: characters, the longest name, the bounds of a reading, and document 01's lists.
+use Prim.Native.Nat.{ℕ, suc, _≤_, _<_}
 use mathlib.Core.Path.{_≡_}
 use mathlib.Core.Bool.{true}
-use mathlib.Core.List.{List, _++_}
+use mathlib.Core.List.{List, _++_, List·Memᴰ}
 use native.Mathlib.Omega.{arith}
-use lib.ListN.{length, length-take}
+use lib.ListN.{length, take, length-take}
 use Rattle.standard.specs.declared.Context.{Context}
-use Rattle.standard.specs.declared.characters.CharRead.the-variants.{Char}
+use Rattle.standard.specs.declared.characters.CharRead.the-variants.{Char, Incomplete, Illformed}
 use Rattle.standard.specs.Notation.{if_then_else_}
 use Rattle.standard.specs.Utf8.{readChar, scalar, encode}
 use Rattle.standard.specs.Classes.{characterCode}
 use Rattle.standard.specs.Numbers.{meaningOf}
+use Rattle.standard.specs.Names.{Name, stands, foundAs, longest}
 use Rattle.standard.specs.NameList.{builtin}
 use Rattle.standard.specs.Reading.{stopOf, covered, decode}
 use Rattle.standard.proofs.Utf8.{read-append}
 use Rattle.standard.proofs.RoundTrip.{read-encode}
 use Rattle.standard.proofs.Narrow.{builtin-narrow}
 use Rattle.standard.proofs.Bounds.{text-fits, errors-fit}
+use Rattle.standard.proofs.Back as Back
+use Rattle.standard.proofs.Soonest as Soonest
+use Rattle.standard.proofs.Longest as Longest
 use Rattle.standard.proofs.Lists as Lists
 
 -- A character that is read does not depend on what follows it.
@@ -26,6 +30,33 @@ read-alone s rest c n e = read-append s rest (Char c n) e tt
 -- Reading what was encoded gives it back.
 pub read-encoded : (c : ℕ) (rest : List ℕ) → scalar c ≡ true → readChar (encode c ++ rest) ≡ Char c (length (encode c))
 read-encoded = read-encode
+
+-- What is read is a scalar value, and its bytes are those that were read.
+pub read-back : (s : List ℕ) (c n : ℕ) → readChar s ≡ Char c n → (encode c ≡ take n s) × (scalar c ≡ true)
+read-back = Back.read-back
+
+-- An incomplete character can be completed.
+pub incomplete-completes : (s : List ℕ) (n : ℕ) → readChar s ≡ Incomplete n
+    → (rest : List ℕ) × (c : ℕ) × (m : ℕ) × (readChar (s ++ rest) ≡ Char c m)
+incomplete-completes = Soonest.incomplete-completes
+
+-- The bytes before an ill-formed one are a beginning of a character.
+pub illformed-before : (s : List ℕ) (n : ℕ) → readChar s ≡ Illformed n → (0 < n → readChar (take n s) ≡ Incomplete n)
+illformed-before = Soonest.illformed-before
+
+-- With an ill-formed byte no character can come, whatever follows.
+pub illformed-never : (s : List ℕ) (n : ℕ) → readChar s ≡ Illformed n → (rest : List ℕ) → readChar (take (suc n) s ++ rest) ≡ Illformed n
+illformed-never = Soonest.illformed-never
+
+-- A name of the table that stands there is no longer than what is found.
+pub longest-most : (names : List Name) (s : List ℕ) (n : Name) → List·Memᴰ n names → stands (n .word) s ≡ true
+    → length (n .word) ≤ longest names s .len
+longest-most = Longest.longest-most
+
+-- What is found is a name of the table that stands there.
+pub longest-some : (names : List Name) (s : List ℕ) → 0 < longest names s .len
+    → (n : Name) × List·Memᴰ n names × (stands (n .word) s ≡ true) × (longest names s ≡ foundAs n)
+longest-some = Longest.longest-some
 
 -- Decoded text is never longer than the covered part.
 pub text-short : (context : Context) (s : List ℕ) → length (decode builtin context (covered context s) .text) ≤ length (covered context s)

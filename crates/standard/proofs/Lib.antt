@@ -13,11 +13,13 @@ pub mod Digits
 pub mod Utf8
 pub mod RoundTrip
 pub mod Back
+pub mod Soonest
 pub mod Lookup
 pub mod BuiltinNames
 pub mod Skips
 pub mod Stops
 pub mod Narrow
+pub mod Longest
 pub mod PieceSize
 pub mod Bounds
 pub mod Ascii

@@ -100,9 +100,9 @@ module _ (t : List ℕ) (at : ℕ) where
       rw (drop-cons t at 0 h, records-unfold n (drop (suc at) t), le-leb (n + 8) (length (drop (suc at) t)) l)
       (rw (drop-drop (n + 8) (suc at) t, e, record-drop t (suc at) n, add-one at))
 
-pub longest-none : (f : Found) (s : List ℕ) → longestFrom f [] s ≡ f
+pub longest-end : (f : Found) (s : List ℕ) → longestFrom f [] s ≡ f
 unfolding longestFrom
-longest-none f s = refl
+longest-end f s = refl
 
 pub longest-more : (f : Found) (n : Name) (names : List Name) (s : List ℕ) → longestFrom f (n ∷ names) s ≡ longestFrom (longer f n s) names s
 unfolding longestFrom

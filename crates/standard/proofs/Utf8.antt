@@ -96,12 +96,13 @@ abbrev pub Next : ℕ → ℕ → ℕ → ℕ → Type 0
 Next zero low high c = Unit {0}
 Next (suc n) low high c = (low ≤ 0x80 + upper n c % 64) × (0x80 + upper n c % 64 ≤ high)
 
--- A good first byte is its mark and its bits, and the range of the second byte leaves only scalar values of that size.
+-- A good first byte is its mark and its bits, and the range of the second byte is not empty and leaves only scalar values of that size.
 pub record Opens (need b low high bits : ℕ) : Type 0 where
   pub few : need ≤ 3
   pub small : bits < 128
   pub least : 0x80 ≤ low
   pub most : high ≤ 0xBF
+  pub some : low ≤ high
   pub is : b ≡ mark need + bits
   pub only : (c : ℕ) → bits ≡ upper need c → Next need low high c → Size need c
 

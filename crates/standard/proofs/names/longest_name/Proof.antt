@@ -5,7 +5,7 @@ use native.Mathlib.Omega.{arith}
 use lib.ListN.{length, drop, getD}
 use Rattle.standard.specs.declared.names.Found.{Found}
 use Rattle.standard.specs.Names.{longestFrom, longest, records}
-use Rattle.standard.proofs.Lookup.{records-end, records-cut, records-more, longest-none, longest-more}
+use Rattle.standard.proofs.Lookup.{records-end, records-cut, records-more, longest-end, longest-more}
 use Rattle.standard.proofs.names.longest_name.Statement.{statement}
 use Rattle.standard.proofs.names.longest_name.Tie as tie
 
@@ -39,7 +39,7 @@ returns : tie.Need-returns Inv-loop μ-loop
 returns c =
     let a = c .before .before .before .before .before .before .args in
     let l = c .before .before .before .loop in
-    sym (l .inv .0 ∙ rw (records-cut (a .table .now) (l .at) (omega arith) (omega arith)) (longest-none _ _))
+    sym (l .inv .0 ∙ rw (records-cut (a .table .now) (l .at) (omega arith) (omega arith)) (longest-end _ _))
 
 longer-of-requires : tie.Need-longer-of-requires Inv-loop μ-loop
 longer-of-requires c κs = omega arith
@@ -68,7 +68,7 @@ returns-2 : tie.Need-returns-2 Inv-loop μ-loop
 returns-2 c =
     let a = c .before .before .before .before .args in
     let l = c .before .loop in
-    sym (l .inv .0 ∙ rw (records-end (a .table .now) (l .at) (omega arith)) (longest-none _ _))
+    sym (l .inv .0 ∙ rw (records-end (a .table .now) (l .at) (omega arith)) (longest-end _ _))
 
 pub longest-name-spec : {M : Type 1} → statement M
 longest-name-spec =
