@@ -3,6 +3,7 @@ pub mod Tests
 pub mod Every
 pub mod Computing
 pub mod Fronts
+pub mod Nexts
 pub mod Blocks
 pub mod Puts
 pub mod Lists

@@ -43,6 +43,7 @@ use Rattle.standard.specs.Pieces.{
 use Rattle.standard.proofs.Choice.{if-both, no-way}
 use Rattle.standard.proofs.Every.{All, every-all}
 use Rattle.standard.proofs.Fronts.{front-induction, front-length}
+use Rattle.standard.proofs.Nexts.{next-there}
 use Rattle.standard.proofs.Utf8.{read-length}
 use Rattle.standard.proofs.RoundTrip.{encode-short, encode-three}
 use Rattle.standard.proofs.Lists.{noncharacters, c1-line, meaningListed, meanings}
@@ -62,13 +63,6 @@ listed-few code = if-both (λ (l : List ℕ). length l ≤ 1) (eqb code no-error
 -- Every element of the front passes the test.
 front-passes : (p : ℕ → Bool) (s : List ℕ) → All (λ (c : ℕ). p c ≡ true) (front p s)
 front-passes p = front-induction p (λ u s. All (λ (c : ℕ). p c ≡ true) u) (λ s. tt) (λ b u s e rest. (e, rest))
-
--- Where an element is next after k others, there are more than k.
-next-there : (p : ℕ → Bool) (k : ℕ) (s : List ℕ) → nextIs p (drop k s) ≡ true → k < length s
-next-there p zero [] e = no-way (sym e)
-next-there p zero (c ∷ s) e = omega arith
-next-there p (suc k) [] e = no-way (sym e)
-next-there p (suc k) (c ∷ s) e = omega (arith, next-there p k s e)
 
 -- What holds of a number and of all that a table has in its second column holds of what the table puts for the number.
 replaced-cases : (P : ℕ → Type 0) (rows : List (ℕ × ℕ)) (n : ℕ) → All (λ (row : ℕ × ℕ). P (row .1)) rows → P n → P (replacedBy rows n)

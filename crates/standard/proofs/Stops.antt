@@ -73,3 +73,14 @@ stop-place context s = omega (arith, stop-within (callsFor context) 0 0 s .0)
 -- A source that is done is covered whole.
 pub stop-done : (context : Context) (s : List ℕ) → stopOf context s .answer ≡ done → stopOf context s .place ≡ length s
 stop-done context s e = omega (arith, stop-within (callsFor context) 0 0 s .1 e)
+
+-- What holds of being done, and of each answer that can be called for, holds of the answer.
+pub stop-cases : (P : ℕ → Type 0) (calls : ℕ → ℕ) → P done → ((r : CharRead) → P (answerTo calls r)) → (k place : ℕ) (s : List ℕ)
+    → P (stopFrom calls k place s .answer)
+unfolding stopFrom
+stop-cases P calls none each zero place [] = none
+stop-cases P calls none each (suc k) place [] = none
+stop-cases P calls none each zero place (b ∷ s) =
+    let later = stop-cases P calls none each (sizeOf (readChar (b ∷ s)) - 1) (suc place) s in
+    if-both (λ (r : Stop). P (r .answer)) (eqb (answerTo calls (readChar (b ∷ s))) done) _ _ (λ t. later) (λ f. each (readChar (b ∷ s)))
+stop-cases P calls none each (suc k) place (b ∷ s) = stop-cases P calls none each k (suc place) s

@@ -1,0 +1,62 @@
+-- The invariant: the plain bytes from `from` on end where those from `at` on do.
+use Prim.Native.Nat.{_-_}
+use mathlib.Core.Path.{sym, _∙_}
+use native.Mathlib.Omega.{arith}
+use lib.ListN.{length}
+use borrow.Author.Needs.{needs}
+use borrow.Author.Tests.{not-true, not-false}
+use Rattle.decoder.specs.Runs as spec
+use Rattle.standard.proofs.Fronts.{Skipping, skipping-all, skipping-on, skipped, passed-one, stopped-at, stopped-end}
+use Rattle.decoder.proofs.runs.plain_bytes.Statement.{statement}
+use Rattle.decoder.proofs.runs.plain_bytes.Tie as tie
+
+abbrev Inv-loop : tie.InvT-loop
+Inv-loop s from at₀ at = Skipping spec.plain s from at
+
+abbrev μ-loop : tie.MeasureT-loop
+μ-loop s from at₀ at = length s - at
+
+loop-holds : tie.Need-loop-holds Inv-loop μ-loop
+loop-holds c = skipping-all (c .before .pre)
+
+shared-slice-read-plain : tie.Need-shared-slice-read-plain Inv-loop μ-loop
+shared-slice-read-plain c = omega arith
+
+plain-requires : tie.Need-plain-requires Inv-loop μ-loop
+plain-requires c κs = search needs
+
+returns : tie.Need-returns Inv-loop μ-loop
+returns c =
+    let l = c .before .before .before .before .loop in
+    let e = sym (c .before .plain .ensures) ∙ not-true _ (c .if1 .taken) in
+    skipped (l .inv) (stopped-at (omega arith) e)
+
+add-at : tie.Need-add-at Inv-loop μ-loop
+add-at c = omega arith
+
+loop-less : tie.Need-loop-less Inv-loop μ-loop
+loop-less c = omega arith
+
+loop-again : tie.Need-loop-again Inv-loop μ-loop
+loop-again c =
+    let l = c .before .before .before .before .loop in
+    let e = sym (c .before .plain .ensures) ∙ not-false _ (c .if1 .left) in
+    skipping-on (omega arith) (l .inv) (passed-one (omega arith) e)
+
+returns-2 : tie.Need-returns-2 Inv-loop μ-loop
+returns-2 c = skipped (c .before .loop .inv) (stopped-end (omega arith))
+
+pub plain-bytes-spec : {M : Type 1} → statement M
+plain-bytes-spec =
+    tie.close
+    (tie.spec
+    Inv-loop
+    μ-loop
+    loop-holds
+    shared-slice-read-plain
+    plain-requires
+    returns
+    add-at
+    loop-less
+    loop-again
+    returns-2)

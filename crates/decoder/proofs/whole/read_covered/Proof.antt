@@ -1,0 +1,46 @@
+use native.Mathlib.Omega.{arith}
+use Rattle.decoder.proofs.Answering.{reads-of, wrote-few}
+use borrow.Author.Needs.{needs}
+use Rattle.decoder.proofs.whole.read_covered.Statement.{statement}
+use Rattle.decoder.proofs.whole.read_covered.Tie as tie
+
+builtin-names-requires : tie.Need-builtin-names-requires
+builtin-names-requires c κs = search needs
+
+slice-aggregate-decode-pieces : tie.Need-slice-aggregate-decode-pieces
+slice-aggregate-decode-pieces c = search needs
+
+decode-pieces-requires : tie.Need-decode-pieces-requires
+decode-pieces-requires c κs = search needs
+
+cast-t16 : tie.Need-cast-t16
+cast-t16 c =
+    let a = c .before .before .before .before .before .before .before .before .before .before .before .before .before in
+    omega (arith, wrote-few (a .args .context) (a .args .s .now) (a .pre .0) (c .before .before .before .before .before .decode-pieces .ensures))
+
+cast-t18 : tie.Need-cast-t18
+cast-t18 c =
+    let a = c .before .before .before .before .before .before .before .before .before .before .before .before .before .before in
+    omega (arith, wrote-few (a .args .context) (a .args .s .now) (a .pre .0) (c .before .before .before .before .before .before .decode-pieces .ensures))
+
+same-length : tie.Need-same-length
+same-length c = search needs
+
+same-length-2 : tie.Need-same-length-2
+same-length-2 c = search needs
+
+returns : tie.Need-returns
+returns c = reads-of (c .before .before .before .before .before .before .decode-pieces .ensures)
+
+pub read-covered-spec : {M : Type 1} → statement M
+read-covered-spec =
+    tie.close
+    (tie.spec
+    builtin-names-requires
+    slice-aggregate-decode-pieces
+    decode-pieces-requires
+    cast-t16
+    cast-t18
+    same-length
+    same-length-2
+    returns)

@@ -1,0 +1,62 @@
+use mathlib.Core.Path.{_≡_}
+use native.Mathlib.Omega.{arith}
+use lib.ListN.{length, getD}
+use borrow.Author.Needs.{needs}
+use Rattle.standard.specs.Pieces.{encodes}
+use Rattle.standard.proofs.Puts.{put-none, put-join, put-length}
+use Rattle.standard.proofs.RoundTrip.{encode-short}
+use Rattle.decoder.proofs.Contents.{encodes-one, encodes-both}
+use Rattle.decoder.proofs.writers.put_reference.Statement.{statement}
+use Rattle.decoder.proofs.writers.put_reference.Tie as tie
+
+returns : tie.Need-returns
+unfolding encodes
+returns c = rw (c .if1 .taken) (put-none _ _)
+
+array-read-put-char : tie.Need-array-read-put-char
+array-read-put-char c = search needs
+
+put-char-requires : tie.Need-put-char-requires
+put-char-requires c κs = search needs
+
+same-length : tie.Need-same-length
+same-length c = search needs
+
+returns-2 : tie.Need-returns-2
+returns-2 c =
+    let l = c .before .before .before .before .before .before .before .before .before .before .args .reference .chars in
+    let two : length l ≡ 2 = search needs in
+    rw (c .if2 .taken, encodes-one l two) (c .before .before .before .before .put-char .ensures)
+
+array-read-put-char-2 : tie.Need-array-read-put-char-2
+array-read-put-char-2 c = search needs
+
+put-char-requires-2 : tie.Need-put-char-requires-2
+put-char-requires-2 c κs =
+    let a = c .before .before .before .before .before .before .before .before .before .before .before .args in
+    let e = c .before .before .before .before .before .put-char .ensures in
+    omega (arith, e .next-is, put-length e, encode-short (getD (a .reference .chars) 0 0))
+
+same-length-2 : tie.Need-same-length-2
+same-length-2 c = search needs
+
+returns-3 : tie.Need-returns-3
+returns-3 c =
+    let r = c .before .before .before .before .before .before .before .before .before .before .before .before .before .before .args .reference in
+    let two : length (r .chars) ≡ 2 = search needs in
+    rw (encodes-both (r .chars) (r .«num_chars») two (omega arith))
+    (put-join (c .before .before .before .before .before .before .before .before .put-char .ensures) (c .before .before .put-char2 .ensures))
+
+pub put-reference-spec : {M : Type 1} → statement M
+put-reference-spec =
+    tie.close
+    (tie.spec
+    returns
+    array-read-put-char
+    put-char-requires
+    same-length
+    returns-2
+    array-read-put-char-2
+    put-char-requires-2
+    same-length-2
+    returns-3)

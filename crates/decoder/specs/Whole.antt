@@ -1,0 +1,70 @@
+-- Document 01, 'Whole-slice calls', decode whole: the answer, and what is written.
+use Prim.Native.Nat.{ℕ, _+_, _*_}
+use mathlib.Core.Path.{_≡_}
+use mathlib.Core.List.{List, []}
+use mathlib.Core.Bool.{Bool, _||_}
+use lib.Dec.{ltb, eqb}
+use lib.ListN.{length}
+use lib.Seq.{sets}
+use Rattle.standard.specs.declared.Context.{Context}
+use Rattle.standard.specs.Notation.{if_then_else_}
+use Rattle.standard.specs.Answers.{done, ill-formed, nul, too-long, context-end, room-asked}
+use Rattle.standard.specs.Errors.{numbers}
+use Rattle.standard.specs.NameList.{builtin}
+use Rattle.standard.specs.Reading.{Stop, stopOf, covered, Reading, reading, decode, text-bound, errors-bound}
+use Rattle.decoder.specs.declared.whole.Decoded.{Decoded}
+
+-- The longest source.
+abbrev pub longest-source : ℕ
+longest-source = 65536
+
+-- The room that a source of n bytes asks for: text bytes, and error numbers.
+abbrev pub textRoom : ℕ → ℕ
+textRoom n = text-bound n + 64
+
+abbrev pub errorRoom : ℕ → ℕ
+errorRoom n = 2 * errors-bound n + 8
+
+-- An answer, given its number, text bytes, errors and place.
+abbrev pub decoded : (answer text errors place : ℕ) → Decoded
+decoded answer text errors place = record { answer = answer; text = text; errors = errors; place = place }
+
+-- The answer for a source, with rooms for so many text bytes and error numbers: 3, then 9, then why the source stops.
+unfoldable pub answerOf : Context → List ℕ → (texts codes : ℕ) → ℕ
+answerOf context s texts codes =
+    if ltb longest-source (length s) then too-long
+    else if ltb texts (textRoom (length s)) || ltb codes (errorRoom (length s)) then room-asked
+    else stopOf context s .answer
+
+-- What is written: the reading, where the answer is 0 or 7, and else nothing.
+unfoldable pub writtenOf : Context → List ℕ → (texts codes : ℕ) → Reading
+writtenOf context s texts codes =
+    let answer : ℕ = answerOf context s texts codes in
+    if eqb answer done || eqb answer context-end then decode builtin context (covered context s) else reading [] []
+
+-- The text bytes that are named: those asked for with 9, and else those written.
+abbrev pub textNamed : (answer : ℕ) → List ℕ → Reading → ℕ
+textNamed answer s written = if eqb answer room-asked then textRoom (length s) else length (written .text)
+
+-- The place that is named: where the source stops, with 1, 2 and 7.
+abbrev pub placeNamed : (answer : ℕ) → Stop → ℕ
+placeNamed answer stop = if eqb answer ill-formed || eqb answer nul || eqb answer context-end then stop .place else 0
+
+-- The whole answer.
+unfoldable pub decodedOf : Context → List ℕ → (texts codes : ℕ) → Decoded
+decodedOf context s texts codes =
+    let answer : ℕ = answerOf context s texts codes in
+    let written : Reading = writtenOf context s texts codes in
+    decoded answer (textNamed answer s written) (length (written .errors)) (placeNamed answer (stopOf context s))
+
+-- A result that says what was written, and the rooms that hold it.
+pub record Reads (reads : Reading) (answer place : ℕ) (text errors : List ℕ) (r : Decoded) (text′ errors′ : List ℕ) : Type 0 where
+  pub answered : r ≡ decoded answer (length (reads .text)) (length (reads .errors)) place
+  pub texts : text′ ≡ sets text 0 (reads .text)
+  pub numbers-of : errors′ ≡ sets errors 0 (numbers (reads .errors))
+
+-- What a call gives for a source and two rooms: its result, and what the rooms then hold.
+pub record Decodes (context : Context) (source text errors : List ℕ) (r : Decoded) (text′ errors′ : List ℕ) : Type 0 where
+  pub answered : r ≡ decodedOf context source (length text) (length errors)
+  pub texts : text′ ≡ sets text 0 (writtenOf context source (length text) (length errors) .text)
+  pub numbers-of : errors′ ≡ sets errors 0 (numbers (writtenOf context source (length text) (length errors) .errors))

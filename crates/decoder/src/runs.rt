@@ -1,0 +1,139 @@
+// Runs: stretches of bytes that need no look at each character. They are tested in blocks of 32.
+ghost use mathlib.Core.Path.{_≡_};
+ghost use Prim.Native.Nat.{_≤_, _<_, _+_, _-_};
+ghost use lib.ListN.{length, take, drop};
+ghost use Rattle.standard.specs.Notation.{front, every};
+ghost use Rattle.decoder.specs.Runs as spec;
+use standard::Context;
+
+// A byte that is a character of its own, stands for itself and has no error.
+fn plain(b: u8) -> bool
+    ensures { λ r. ⌜ r ≡ spec.plain b ⌝ }
+{
+    if b == 0xA {
+        return true;
+    }
+    if b == 0x9 {
+        return true;
+    }
+    if b < 0x20 {
+        return false;
+    }
+    if 0x7E < b {
+        return false;
+    }
+    b != b'&'
+}
+
+// Whether the 32 bytes from at on are plain. The loop has no early end, so it is done many bytes at a time.
+fn plain_block(s: &[u8], at: usize) -> bool
+    requires { ⌜ at + 32 ≤ length (now s) ⌝ }
+    ensures { λ r. ⌜ r ≡ every spec.plain (take 32 (drop at (now (s .entry)))) ⌝ }
+{
+    let mut odd: u8 = 0;
+    let mut i: usize = 0;
+    while i < 32 {
+        if !plain(s[at + i]) {
+            odd += 1;
+        }
+        i += 1;
+    }
+    odd == 0
+}
+
+fn plain_bytes(s: &[u8], from: usize) -> usize
+    requires { ⌜ from ≤ length (now s) ⌝ }
+    ensures { λ r. ⌜ r ≡ from + length (front spec.plain (drop from (now (s .entry)))) ⌝ }
+{
+    let mut at = from;
+    while at < s.len() {
+        if !plain(s[at]) {
+            return at;
+        }
+        at += 1;
+    }
+    at
+}
+
+// The place of the first byte from `from` on that isn't plain.
+pub(crate) fn plain_run(s: &[u8], from: usize) -> usize
+    requires { ⌜ from ≤ length (now s) ⌝ }
+    ensures { λ r. ⌜ r ≡ from + length (front spec.plain (drop from (now (s .entry)))) ⌝ }
+{
+    let mut at = from;
+    while 32 <= s.len() - at {
+        if !plain_block(s, at) {
+            return plain_bytes(s, at);
+        }
+        at += 32;
+    }
+    plain_bytes(s, at)
+}
+
+// The byte before which a source ends.
+pub(crate) fn end_of(context: Context) -> u8
+    ensures { λ r. ⌜ r ≡ spec.endOf context ⌝ }
+{
+    match context {
+        Context::Text => b'<',
+        Context::Attribute => b'"',
+    }
+}
+
+// A byte that is a character of its own and stops no reading, where a source ends before end.
+fn ordinary(b: u8, end: u8) -> bool
+    ensures { λ r. ⌜ r ≡ spec.ordinary end b ⌝ }
+{
+    if b == 0 {
+        return false;
+    }
+    if 0x7F < b {
+        return false;
+    }
+    b != end
+}
+
+fn ordinary_block(s: &[u8], at: usize, end: u8) -> bool
+    requires { ⌜ at + 32 ≤ length (now s) ⌝ }
+    ensures { λ r. ⌜ r ≡ every (spec.ordinary end) (take 32 (drop at (now (s .entry)))) ⌝ }
+{
+    let mut odd: u8 = 0;
+    let mut i: usize = 0;
+    while i < 32 {
+        if !ordinary(s[at + i], end) {
+            odd += 1;
+        }
+        i += 1;
+    }
+    odd == 0
+}
+
+fn ordinary_bytes(s: &[u8], from: usize, end: u8) -> usize
+    requires { ⌜ from ≤ length (now s) ⌝ }
+    ensures { λ r. ⌜ r ≡ from + length (front (spec.ordinary end) (drop from (now (s .entry)))) ⌝ }
+{
+    let mut at = from;
+    while at < s.len() {
+        if !ordinary(s[at], end) {
+            return at;
+        }
+        at += 1;
+    }
+    at
+}
+
+// The place of the first byte from `from` on that isn't ordinary.
+pub(crate) fn ordinary_run(s: &[u8], from: usize, context: Context) -> usize
+    requires { ⌜ from ≤ length (now s) ⌝ }
+    ensures { λ r. ⌜ r ≡ from + length (front (spec.ordinary (spec.endOf context)) (drop from (now (s .entry)))) ⌝ }
+{
+    let end = end_of(context);
+    let mut at = from;
+    while 32 <= s.len() - at {
+        if !ordinary_block(s, at, end) {
+            return ordinary_bytes(s, at, end);
+        }
+        at += 32;
+    }
+    ordinary_bytes(s, at, end)
+}

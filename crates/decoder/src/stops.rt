@@ -1,0 +1,80 @@
+// Where a source stops, and why.
+ghost use mathlib.Core.Path.{_≡_};
+ghost use Rattle.standard.specs.Reading.{callsFor, answerTo, sizeOf, stopOf};
+use crate::runs::end_of;
+use crate::runs::ordinary_run;
+use standard::Context;
+use standard::characters::CharRead;
+use standard::characters::read_char;
+
+// Why reading stops, and after how many bytes.
+pub(crate) struct Stopped {
+    pub answer: u32,
+    pub place: usize,
+}
+
+fn wide(b: u8) -> u32
+    ensures { λ r. ⌜ r ≡ b ⌝ }
+{
+    b as u32
+}
+
+// The answer that a character calls for, 0 where reading goes on.
+fn calls_for(context: Context, c: u32) -> u32
+    ensures { λ r. ⌜ r ≡ callsFor context c ⌝ }
+{
+    if c == 0 {
+        return 2;
+    }
+    if c == wide(end_of(context)) {
+        return 7;
+    }
+    0
+}
+
+// The answer that what is read calls for: 1 where it is no character.
+fn answer_to(context: Context, read: CharRead) -> u32
+    ensures { λ r. ⌜ r ≡ answerTo (callsFor context) read ⌝ }
+{
+    match read {
+        CharRead::Char { value, len: _ } => calls_for(context, value),
+        CharRead::Incomplete(_) => 1,
+        CharRead::Illformed(_) => 1,
+        CharRead::End => 0,
+    }
+}
+
+// How many bytes stand before what is read ends.
+fn size_of(read: CharRead) -> usize
+    ensures { λ r. ⌜ r ≡ sizeOf read ⌝ }
+{
+    match read {
+        CharRead::Char { value: _, len } => len,
+        CharRead::Incomplete(len) => len,
+        CharRead::Illformed(len) => len,
+        CharRead::End => 0,
+    }
+}
+
+// Where a source stops: runs of ordinary bytes are passed at once, and each other character is read.
+pub(crate) fn find_stop(context: Context, s: &[u8]) -> Stopped
+    ensures { λ r. ⌜ (r .answer ≡ stopOf context (now (s .entry)) .answer) × (r .place ≡ stopOf context (now (s .entry)) .place) ⌝ }
+{
+    let mut at: usize = 0;
+    while at < s.len() {
+        let from = ordinary_run(s, at, context);
+        let read = read_char(&s[from..]);
+        let answer = answer_to(context, read);
+        if answer != 0 {
+            return Stopped {
+                answer,
+                place: from,
+            };
+        }
+        at = from + size_of(read);
+    }
+    Stopped {
+        answer: 0,
+        place: at,
+    }
+}

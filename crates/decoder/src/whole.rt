@@ -1,0 +1,152 @@
+// A whole source at once.
+ghost use mathlib.Core.Path.{_≡_};
+ghost use Prim.Native.Nat.{_≤_, _<_, _+_, _*_};
+ghost use lib.ListN.{length};
+ghost use Rattle.standard.specs.Names.{tableOf};
+ghost use Rattle.standard.specs.NameList.{builtin};
+ghost use Rattle.standard.specs.Reading.{readingAt, decode};
+ghost use Rattle.standard.specs.Rooms.{Wrote};
+ghost use Rattle.decoder.specs.Pieces.{pieceOf};
+ghost use Rattle.decoder.specs.Whole.{textRoom, decoded, Reads, Decodes};
+use crate::pieces::Piece;
+use crate::pieces::piece_at;
+use crate::runs::plain_run;
+use crate::stops::find_stop;
+use crate::writers::put_codes;
+use crate::writers::put_reference;
+use standard::Context;
+use standard::table::builtin_names;
+
+// The answer, text bytes written (or asked for, with 9), errors written, and place.
+pub struct Decoded {
+    pub answer: u32,
+    pub text: u32,
+    pub errors: u32,
+    pub place: u32,
+}
+
+// The places after what was written: in the text room, and in the error room.
+struct Written {
+    text: usize,
+    errors: usize,
+}
+
+// Writes a piece that stands at place: its text at w, its errors at e.
+fn put_piece(
+    text: &mut [u8],
+    w: usize,
+    errors: &mut [u32],
+    e: usize,
+    piece: Piece,
+    place: u32,
+) -> Written
+    requires { ⌜ (w + 8 ≤ length (now text)) × (e + 4 ≤ length (now errors)) ⌝ }
+    ensures { λ r. ⌜ Wrote (readingAt place (pieceOf piece)) (now (text .entry)) w (now (text .exit)) (r .text) (now (errors .entry)) e (now (errors .exit)) (r .errors) ⌝ }
+{
+    let reference = piece.reference;
+    let next = put_reference(text, w, reference);
+    Written {
+        text: next,
+        errors: put_codes(errors, e, piece.first, piece.second, place),
+    }
+}
+
+// Writes the reading of a covered source: runs of plain bytes are copied at once, and each other piece is read.
+fn decode_pieces(
+    table: &[u8],
+    context: Context,
+    s: &[u8],
+    text: &mut [u8],
+    errors: &mut [u32],
+) -> Written
+    requires { ⌜ (now table ≡ tableOf builtin) × (length (now s) ≤ 65536) × (length (now s) + 64 ≤ length (now text)) × (2 * length (now s) + 8 ≤ length (now errors)) ⌝ }
+    ensures { λ r. ⌜ Wrote (decode builtin context (now (s .entry))) (now (text .entry)) 0 (now (text .exit)) (r .text) (now (errors .entry)) 0 (now (errors .exit)) (r .errors) ⌝ }
+{
+    let mut at: usize = 0;
+    let mut w: usize = 0;
+    let mut e: usize = 0;
+    while at < s.len() {
+        let from = plain_run(s, at);
+        w = rooms::copy(&s[at..from], text, w);
+        if from == s.len() {
+            return Written { text: w, errors: e };
+        }
+        let piece = piece_at(table, context, &s[from..]);
+        let next = put_piece(text, w, errors, e, piece, from as u32);
+        w = next.text;
+        e = next.errors;
+        at = from + piece.size;
+    }
+    Written { text: w, errors: e }
+}
+
+// The source's room is asked for: answer 9.
+fn asked(length: usize) -> Decoded
+    requires { ⌜ length ≤ 65536 ⌝ }
+    ensures { λ r. ⌜ r ≡ decoded 9 (textRoom length) 0 0 ⌝ }
+{
+    Decoded {
+        answer: 9,
+        text: (length + 64) as u32,
+        errors: 0,
+        place: 0,
+    }
+}
+
+// Writes the reading of a covered source, and answers so, with the place that is named.
+fn read_covered(
+    context: Context,
+    s: &[u8],
+    text: &mut [u8],
+    errors: &mut [u32],
+    answer: u32,
+    place: u32,
+) -> Decoded
+    requires { ⌜ (length (now s) ≤ 65536) × (length (now s) + 64 ≤ length (now text)) × (2 * length (now s) + 8 ≤ length (now errors)) ⌝ }
+    ensures { λ r. ⌜ Reads (decode builtin context (now (s .entry))) answer place (now (text .entry)) (now (errors .entry)) r (now (text .exit)) (now (errors .exit)) ⌝ }
+{
+    let table = builtin_names();
+    let written = decode_pieces(&table, context, s, text, errors);
+    Decoded {
+        answer,
+        text: written.text as u32,
+        errors: (written.errors / 2) as u32,
+        place,
+    }
+}
+
+// Text and errors of a whole source.
+pub fn decode_whole(context: Context, source: &[u8], text: &mut [u8], errors: &mut [u32]) -> Decoded
+    ensures { λ r. ⌜ Decodes context (now (source .entry)) (now (text .entry)) (now (errors .entry)) r (now (text .exit)) (now (errors .exit)) ⌝ }
+{
+    let length = source.len();
+    if 65536 < length {
+        return Decoded {
+            answer: 3,
+            text: 0,
+            errors: 0,
+            place: 0,
+        };
+    }
+    if text.len() < length + 64 {
+        return asked(length);
+    }
+    if errors.len() < 2 * length + 8 {
+        return asked(length);
+    }
+    let stop = find_stop(context, source);
+    let answer = stop.answer;
+    let place = stop.place;
+    if answer == 0 {
+        return read_covered(context, source, text, errors, 0, 0);
+    }
+    if answer == 7 {
+        return read_covered(context, &source[..place], text, errors, 7, place as u32);
+    }
+    Decoded {
+        answer,
+        text: 0,
+        errors: 0,
+        place: place as u32,
+    }
+}

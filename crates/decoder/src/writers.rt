@@ -1,0 +1,107 @@
+// Writing into lent rooms: each function writes at a place and answers the place after; all else stays.
+ghost use mathlib.Core.Path.{_≡_};
+ghost use mathlib.Core.List.{_∷_, [], _++_};
+ghost use Prim.Native.Nat.{_≤_, _<_, _+_};
+ghost use lib.ListN.{length};
+ghost use Rattle.standard.specs.Notation.{if_then_else_};
+ghost use Rattle.standard.specs.Utf8.{scalar, octets, encode};
+ghost use Rattle.standard.specs.Errors.{listed, placed, numbers};
+ghost use Rattle.standard.specs.Pieces.{charRefText};
+ghost use Rattle.standard.specs.Rooms.{Put};
+use standard::names::CharRef;
+
+// A number that is no scalar value is written as U+FFFD.
+fn written(c: u32) -> u32
+    ensures { λ r. ⌜ (r ≡ (if scalar c then c else 0xFFFD)) × (r < 0x110000) ⌝ }
+{
+    if c < 0xD800 {
+        return c;
+    }
+    if c < 0xE000 {
+        return 0xFFFD;
+    }
+    if c < 0x110000 {
+        return c;
+    }
+    0xFFFD
+}
+
+fn put_octets(text: &mut [u8], at: usize, c: u32) -> usize
+    requires { ⌜ (at + 4 ≤ length (now text)) × (c < 0x110000) ⌝ }
+    ensures { λ r. ⌜ Put (now (text .entry)) at (octets c) (now (text .exit)) r ⌝ }
+{
+    if c < 0x80 {
+        text[at] = c as u8;
+        return at + 1;
+    }
+    if c < 0x800 {
+        text[at] = (0xC0 + c / 64) as u8;
+        text[at + 1] = (0x80 + c % 64) as u8;
+        return at + 2;
+    }
+    if c < 0x10000 {
+        text[at] = (0xE0 + c / 4096) as u8;
+        text[at + 1] = (0x80 + c / 64 % 64) as u8;
+        text[at + 2] = (0x80 + c % 64) as u8;
+        return at + 3;
+    }
+    text[at] = (0xF0 + c / 262144) as u8;
+    text[at + 1] = (0x80 + c / 4096 % 64) as u8;
+    text[at + 2] = (0x80 + c / 64 % 64) as u8;
+    text[at + 3] = (0x80 + c % 64) as u8;
+    at + 4
+}
+
+// The bytes of a character.
+pub(crate) fn put_char(text: &mut [u8], at: usize, c: u32) -> usize
+    requires { ⌜ at + 4 ≤ length (now text) ⌝ }
+    ensures { λ r. ⌜ Put (now (text .entry)) at (encode c) (now (text .exit)) r ⌝ }
+{
+    put_octets(text, at, written(c))
+}
+
+// The text of a reference: none, one or both of its characters.
+pub(crate) fn put_reference(text: &mut [u8], at: usize, reference: CharRef) -> usize
+    requires { ⌜ at + 8 ≤ length (now text) ⌝ }
+    ensures { λ r. ⌜ Put (now (text .entry)) at (charRefText reference) (now (text .exit)) r ⌝ }
+{
+    let chars = reference.chars;
+    if reference.num_chars == 0 {
+        return at;
+    }
+    let next = put_char(text, at, chars[0]);
+    if reference.num_chars == 1 {
+        return next;
+    }
+    put_char(text, next, chars[1])
+}
+
+// An error.
+pub(crate) fn put_error(errors: &mut [u32], at: usize, code: u32, place: u32) -> usize
+    requires { ⌜ at + 2 ≤ length (now errors) ⌝ }
+    ensures { λ r. ⌜ Put (now (errors .entry)) at (code ∷ place ∷ []) (now (errors .exit)) r ⌝ }
+{
+    errors[at] = code;
+    errors[at + 1] = place;
+    at + 2
+}
+
+// An error, or none where the code is 0.
+pub(crate) fn put_code(errors: &mut [u32], at: usize, code: u32, place: u32) -> usize
+    requires { ⌜ at + 2 ≤ length (now errors) ⌝ }
+    ensures { λ r. ⌜ Put (now (errors .entry)) at (numbers (placed place (listed code))) (now (errors .exit)) r ⌝ }
+{
+    if code == 0 {
+        return at;
+    }
+    put_error(errors, at, code, place)
+}
+
+// The errors of a piece: two codes, each 0 where there is none.
+pub(crate) fn put_codes(errors: &mut [u32], at: usize, first: u32, second: u32, place: u32) -> usize
+    requires { ⌜ at + 4 ≤ length (now errors) ⌝ }
+    ensures { λ r. ⌜ Put (now (errors .entry)) at (numbers (placed place (listed first ++ listed second))) (now (errors .exit)) r ⌝ }
+{
+    let next = put_code(errors, at, first, place);
+    put_code(errors, next, second, place)
+}

@@ -1,0 +1,73 @@
+// Writing bytes into lent rooms.
+ghost use mathlib.Core.Path.{_≡_};
+ghost use Prim.Native.Nat.{_≤_, _+_, _-_, min};
+ghost use lib.ListN.{length, take, drop};
+ghost use Rattle.standard.specs.Rooms.{Put};
+
+// The lesser of two numbers.
+fn least(a: usize, b: usize) -> usize
+    ensures { λ r. ⌜ r ≡ min a b ⌝ }
+{
+    if a < b {
+        return a;
+    }
+    b
+}
+
+// The 32 bytes of s from `at` on.
+fn block_at(s: &[u8], at: usize) -> [u8; 32]
+    requires { ⌜ at + 32 ≤ length (now s) ⌝ }
+    ensures { λ r. ⌜ r ≡ take 32 (drop at (now (s .entry))) ⌝ }
+{
+    let mut block = [0u8; 32];
+    let mut i: usize = 0;
+    while i < 32 {
+        block[i] = s[at + i];
+        i += 1;
+    }
+    block
+}
+
+// A block written whole.
+fn put_block(to: &mut [u8], at: usize, block: [u8; 32]) -> usize
+    requires { ⌜ at + 32 ≤ length (now to) ⌝ }
+    ensures { λ r. ⌜ Put (now (to .entry)) at block (now (to .exit)) r ⌝ }
+{
+    let mut i: usize = 0;
+    while i < 32 {
+        to[at + i] = block[i];
+        i += 1;
+    }
+    at + 32
+}
+
+// Bytes written one by one.
+fn put_bytes(from: &[u8], to: &mut [u8], at: usize) -> usize
+    requires { ⌜ at + length (now from) ≤ length (now to) ⌝ }
+    ensures { λ r. ⌜ Put (now (to .entry)) at (now (from .entry)) (now (to .exit)) r ⌝ }
+{
+    let mut i: usize = 0;
+    while i < from.len() {
+        to[at + i] = from[i];
+        i += 1;
+    }
+    at + i
+}
+
+// Copies as many bytes of `from` as fit into `to` from `at` on, and answers the place after them; all else stays.
+pub fn copy(from: &[u8], to: &mut [u8], at: usize) -> usize
+    ensures { λ r. ⌜ Put (now (to .entry)) at (take (length (now (to .entry)) - at) (now (from .entry))) (now (to .exit)) r ⌝ }
+{
+    if to.len() < at {
+        return at;
+    }
+    let count = least(to.len() - at, from.len());
+    let mut i: usize = 0;
+    let mut next = at;
+    while i + 32 <= count {
+        let block = block_at(from, i);
+        next = put_block(to, next, block);
+        i += 32;
+    }
+    put_bytes(&from[i..count], to, next)
+}
