@@ -46,7 +46,7 @@ writtenWith context s answer =
     if eqb answer done || eqb answer context-end then decode builtin context (covered context s) else reading [] []
 
 -- A source stops with one of four answers.
-abbrev OneOf : ℕ → Type 0
+abbrev pub OneOf : ℕ → Type 0
 OneOf a = (a ≡ done) ⊎ ((a ≡ ill-formed) ⊎ ((a ≡ nul) ⊎ (a ≡ context-end)))
 
 called : (context : Context) (r : CharRead) → OneOf (answerTo (callsFor context) r)
@@ -57,6 +57,9 @@ called context (Incomplete n) = inr (inl refl)
 called context (Illformed n) = inr (inl refl)
 called context End = inl refl
 
+pub stops-with : (context : Context) (s : List ℕ) → OneOf (stopOf context s .answer)
+stops-with context s = stop-cases OneOf (callsFor context) (inl refl) (called context) 0 0 s
+
 module _ (context : Context) (s text errors : List ℕ) where
   -- By the answer's number alone.
   by-answer : (a : ℕ) → answerOf context s (length text) (length errors) ≡ a → {text′ errors′ : List ℕ} {r : Decoded}
@@ -66,17 +69,35 @@ module _ (context : Context) (s text errors : List ℕ) where
   unfolding decodedOf writtenOf
   by-answer a e answered texts nums = record { answered = answered ∙ rw e; texts = rw e texts; numbers-of = rw e nums }
 
+  -- What meets the contract is what the answer's number says.
+  pub answer-says : (a : ℕ) → answerOf context s (length text) (length errors) ≡ a → {text′ errors′ : List ℕ} {r : Decoded}
+      → Decodes context s text errors r text′ errors′
+      → (r ≡ decoded a (textNamed a s (writtenWith context s a)) (length (writtenWith context s a .errors)) (placeNamed a (stopOf context s)))
+      × (text′ ≡ sets text 0 (writtenWith context s a .text)) × (errors′ ≡ sets errors 0 (numbers (writtenWith context s a .errors)))
+  unfolding decodedOf writtenOf
+  answer-says a e d = (d .answered ∙ rw e, d .texts ∙ rw e, d .numbers-of ∙ rw e)
+
+  -- Its number is the answer.
+  pub answer-is : {text′ errors′ : List ℕ} {r : Decoded} → Decodes context s text errors r text′ errors′
+      → r .answer ≡ answerOf context s (length text) (length errors)
+  unfolding decodedOf
+  answer-is d = ap (λ (x : Decoded). x .answer) (d .answered)
+
   -- 3.
+  pub answers-too-long : 65536 < length s → answerOf context s (length text) (length errors) ≡ too-long
+  unfolding answerOf
+  answers-too-long h = rw (lt-ltb 65536 (length s) h)
+
   pub whole-too-long : 65536 < length s → Decodes context s text errors (decoded 3 0 0 0) text errors
-  unfolding answerOf numbers
-  whole-too-long h = by-answer 3 (rw (lt-ltb 65536 (length s) h)) refl refl refl
+  unfolding numbers
+  whole-too-long h = by-answer 3 (answers-too-long h) refl refl refl
 
   module _ (short : length s ≤ 65536) where
     -- 9.
-    pub whole-asked : (length text < length s + 64) ⊎ (length errors < 2 * length s + 8)
-        → Decodes context s text errors (decoded 9 (length s + 64) 0 0) text errors
-    unfolding answerOf numbers
-    whole-asked h = by-answer 9 (rw (le-ltb 65536 (length s) short) (go h)) refl refl refl
+    pub answers-asked : (length text < length s + 64) ⊎ (length errors < 2 * length s + 8)
+        → answerOf context s (length text) (length errors) ≡ room-asked
+    unfolding answerOf
+    answers-asked h = rw (le-ltb 65536 (length s) short) (go h)
       where
         go : (length text < length s + 64) ⊎ (length errors < 2 * length s + 8)
             → (if ltb (length text) (length s + 64) || ltb (length errors) (2 * length s + 8) then 9 else stopOf context s .answer) ≡ 9
@@ -85,9 +106,14 @@ module _ (context : Context) (s text errors : List ℕ) where
             rw (lt-ltb (length errors) (2 * length s + 8) k)
             (⊎-elim (λ e. rw e) (λ e. rw e) (test? (ltb (length text) (length s + 64))))
 
+    pub whole-asked : (length text < length s + 64) ⊎ (length errors < 2 * length s + 8)
+        → Decodes context s text errors (decoded 9 (length s + 64) 0 0) text errors
+    unfolding numbers
+    whole-asked h = by-answer 9 (answers-asked h) refl refl refl
+
     module _ (texts : length s + 64 ≤ length text) (nums : 2 * length s + 8 ≤ length errors) where
       -- With room, the answer is why the source stops.
-      stops-so : answerOf context s (length text) (length errors) ≡ stopOf context s .answer
+      pub stops-so : answerOf context s (length text) (length errors) ≡ stopOf context s .answer
       unfolding answerOf
       stops-so =
           rw (le-ltb 65536 (length s) short, le-ltb (length text) (length s + 64) texts, le-ltb (length errors) (2 * length s + 8) nums)
@@ -111,7 +137,7 @@ module _ (context : Context) (s text errors : List ℕ) where
       pub whole-refused : (a place : ℕ) → a ≡ stopOf context s .answer → place ≡ stopOf context s .place → (a ≡ done → ⊥) → (a ≡ context-end → ⊥)
           → Decodes context s text errors (decoded a 0 0 place) text errors
       unfolding numbers
-      whole-refused a place e p x y = go (stop-cases OneOf (callsFor context) (inl refl) (called context) 0 0 s)
+      whole-refused a place e p x y = go (stops-with context s)
         where
           go : OneOf (stopOf context s .answer) → Decodes context s text errors (decoded a 0 0 place) text errors
           go (inl k) = absurd (x (e ∙ k))

@@ -1,5 +1,7 @@
 pub mod Rows
+pub mod Lines
 pub mod Laws
 pub mod Marked
 pub mod Edges
+pub mod WholeAnswers
 pub mod Unique
