@@ -6,6 +6,10 @@ use mathlib.Core.List.{List}
 use contract.Lifetimes.{Lfts}
 use denote.Triple.Clauses.{AtExit}
 use borrow.Fn.Kinds.{PK, RK, Dens, resT, endedOf, Out}
+use Rattle.decoder.proofs.decode_whole.Kinds as decode-whole-kinds
+use Rattle.decoder.proofs.decode_whole.Reads as decode-whole-reads
+use Rattle.rooms.proofs.copy.Kinds as copy-kinds
+use Rattle.rooms.proofs.copy.Reads as copy-reads
 use Rattle.standard.proofs.characters.read_char.Kinds as read-char-kinds
 use Rattle.standard.proofs.characters.read_char.Reads as read-char-reads
 use Rattle.standard.proofs.names.longest_name.Kinds as longest-name-kinds
@@ -35,3 +39,21 @@ begins-name κs a x y e f p q = only p q
 
 pub builtin-names : Fixes 0 builtin-names-kinds.ps builtin-names-kinds.r builtin-names-reads.Post
 builtin-names κs a x y e f p q = only p q
+
+-- An `ensures` of a function with lent buffers leaves one result and, of each buffer, one content: lent picks them out of the parameters at exit.
+abbrev pub FixesLent : (n : ℕ) (ps : List (PK n)) (r : RK n) (B : Type 0) → ((κs : Lfts n) → AtExit (endedOf n ps r) κs → B) → Out n ps r → Type 0
+FixesLent n ps r B lent ensures =
+    (κs : Lfts n) (a : Dens κs ps) (x y : resT r κs .Denot) (e f : AtExit (endedOf n ps r) κs) → ensures κs a x e → ensures κs a y f
+    → (x ≡ y) × (lent κs e ≡ lent κs f)
+
+-- The place after, and the room.
+pub copy : FixesLent 2 copy-kinds.ps copy-kinds.r (List ℕ) (λ κs e. e .1 .0 .now) copy-reads.Post
+copy κs a x y e f p q = (only (p .next-is) (q .next-is), only (p .new-is) (q .new-is))
+
+-- The answer, the text room and the error room.
+pub decode-whole : FixesLent 3 decode-whole-kinds.ps decode-whole-kinds.r (List ℕ × List ℕ)
+    (λ κs e. (e .1 .1 .0 .now, e .1 .1 .1 .0 .now)) decode-whole-reads.Post
+decode-whole κs a x y e f p q = (
+  only (p .answered) (q .answered),
+  λ i. (only (p .texts) (q .texts) i, only (p .numbers-of) (q .numbers-of) i),
+)
