@@ -1,5 +1,5 @@
 -- What the other theorems lean on: characters, the longest name, the bounds of a reading, and document 01's lists.
-use Prim.Native.Nat.{ℕ, suc, _≤_, _<_}
+use Prim.Native.Nat.{ℕ, suc, _≤_, _<_, _*_}
 use mathlib.Core.Path.{_≡_}
 use mathlib.Core.Bool.{true}
 use mathlib.Core.List.{List, _++_, List·Memᴰ}
@@ -22,6 +22,9 @@ use Rattle.standard.proofs.Back as Back
 use Rattle.standard.proofs.Soonest as Soonest
 use Rattle.standard.proofs.Longest as Longest
 use Rattle.standard.proofs.Lists as Lists
+use Rattle.escaper.specs.declared.Mode.{Mode}
+use Rattle.escaper.specs.Escape.{escape}
+use Rattle.escaper.proofs.Bound as Bound
 
 -- A character that is read does not depend on what follows it.
 pub read-alone : (s rest : List ℕ) (c n : ℕ) → readChar s ≡ Char c n → readChar (s ++ rest) ≡ Char c n
@@ -74,3 +77,7 @@ characters-listed = Lists.characters
 -- A number means what document 01 lists.
 pub meanings-listed : (n : ℕ) → meaningOf n ≡ Lists.meaningListed n
 meanings-listed = Lists.meanings
+
+-- The result of escaping is at most six times the input.
+pub escape-six : (mode : Mode) (s : List ℕ) → length (escape mode s) ≤ 6 * length s
+escape-six = Bound.escape-six

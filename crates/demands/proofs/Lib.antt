@@ -4,4 +4,5 @@ pub mod Laws
 pub mod Marked
 pub mod Edges
 pub mod WholeAnswers
+pub mod EscapeAnswers
 pub mod Unique

@@ -8,6 +8,8 @@ use denote.Triple.Clauses.{AtExit}
 use borrow.Fn.Kinds.{PK, RK, Dens, resT, endedOf, Out}
 use Rattle.decoder.proofs.decode_whole.Kinds as decode-whole-kinds
 use Rattle.decoder.proofs.decode_whole.Reads as decode-whole-reads
+use Rattle.escaper.proofs.escape.Kinds as escape-kinds
+use Rattle.escaper.proofs.escape.Reads as escape-reads
 use Rattle.rooms.proofs.copy.Kinds as copy-kinds
 use Rattle.rooms.proofs.copy.Reads as copy-reads
 use Rattle.standard.proofs.characters.read_char.Kinds as read-char-kinds
@@ -57,3 +59,7 @@ decode-whole κs a x y e f p q = (
   only (p .answered) (q .answered),
   λ i. (only (p .texts) (q .texts) i, only (p .numbers-of) (q .numbers-of) i),
 )
+
+-- The answer, and the room.
+pub escape : FixesLent 2 escape-kinds.ps escape-kinds.r (List ℕ) (λ κs e. e .1 .1 .0 .now) escape-reads.Post
+escape κs a x y e f p q = (only (p .0) (q .0), only (p .1) (q .1))

@@ -1,7 +1,7 @@
 -- Laws of writing a list into a room element by element, and of the part of a list that fits.
 use Prim.Native.Nat.{ℕ, _+_, _-_, _≤_, _<_, min}
-use mathlib.Core.Path.{_≡_, refl, sym, _∙_, ap, subst}
-use mathlib.Core.List.{List, [], _∷_, _++_}
+use mathlib.Core.Path.{_≡_, refl, sym, _∙_, ap}
+use mathlib.Core.List.{List}
 use mathlib.Core.Logic.{⊎-elim}
 use native.Mathlib.Nat.{add-zero, add-assoc}
 use native.Mathlib.Omega.{arith}
@@ -9,7 +9,7 @@ use lib.ListN.{length, getD, take, drop, set, length-set}
 use lib.Seq.{sets, take-all, take-add}
 use Rattle.standard.specs.Rooms.{Put}
 use Rattle.standard.proofs.Choice.{below?}
-use Rattle.standard.proofs.Puts.{sets-drop, sets-done, put-none, put-join}
+use Rattle.standard.proofs.Puts.{sets-drop, sets-done, put-join}
 
 -- With the values from i on the room will hold what it would with them all.
 pub record Putting (old values : List ℕ) (at : ℕ) (new : List ℕ) (i : ℕ) : Type 0 where

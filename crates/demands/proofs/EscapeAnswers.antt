@@ -1,0 +1,110 @@
+-- Demand 1 for escaping: for each line of the table of answers, when `escape` gives it, and what then holds.
+-- r and out′ are whatever meets the contract of `escape` for an input and a room.
+use Prim.Native.Nat.{ℕ, _≤_, _<_}
+use mathlib.Core.Path.{_≡_, refl, sym, _∙_, ap}
+use mathlib.Core.List.{List, []}
+use mathlib.Core.Logic.{_⊎_, inl, inr, ⊎-elim}
+use native.Mathlib.Omega.{arith}
+use lib.ListN.{length}
+use lib.Seq.{sets}
+use borrow.Author.Tests.{lt-ltb, le-ltb, eq-eqb}
+use Rattle.standard.specs.declared.characters.CharRead.{CharRead}
+use Rattle.standard.specs.declared.characters.CharRead.the-variants.{Char, Incomplete, Illformed, End}
+use Rattle.standard.specs.Answers.{done, ill-formed, too-long, room-asked}
+use Rattle.standard.specs.Reading.{answerTo, Stop}
+use Rattle.standard.proofs.Choice.{below?}
+use Rattle.standard.proofs.Stops.{stop-cases}
+use Rattle.escaper.specs.declared.Mode.{Mode}
+use Rattle.escaper.specs.declared.Escaped.{Escaped}
+use Rattle.escaper.specs.Escape.{escape, stopOf, answerOf, writtenOf, escapedOf}
+use Rattle.demands.proofs.Lines.{Line}
+
+abbrev pub escaped : (answer text place : ℕ) → Escaped
+escaped answer text place = record { answer = answer; text = text; place = place }
+
+-- An input stops at its end or at a fault.
+stops-with : (s : List ℕ) → (stopOf s .answer ≡ done) ⊎ (stopOf s .answer ≡ ill-formed)
+stops-with s = stop-cases (λ (a : ℕ). (a ≡ done) ⊎ (a ≡ ill-formed)) (λ c. done) (inl refl) called 0 0 s
+  where
+    called : (r : CharRead) → (answerTo (λ c. done) r ≡ done) ⊎ (answerTo (λ c. done) r ≡ ill-formed)
+    called (Char c n) = inl refl
+    called (Incomplete n) = inr refl
+    called (Illformed n) = inr refl
+    called End = inl refl
+
+module _ (mode : Mode) (s out : List ℕ) (r : Escaped) (out′ : List ℕ) (result : r ≡ escapedOf mode s (length out)) (room : out′ ≡ sets out 0 (writtenOf mode s (length out))) where
+  -- The answer by its definition.
+  abbrev answer : ℕ
+  answer = answerOf mode s (length out)
+
+  -- The input is not too long, and is well-formed.
+  abbrev Good : Type 0
+  Good = (length s ≤ 65536) × (stopOf s .answer ≡ done)
+
+  answer-is : r .answer ≡ answer
+  unfolding escapedOf
+  answer-is = ap (λ (x : Escaped). x .answer) result
+
+  -- Each case has its answer.
+  long : 65536 < length s → answer ≡ too-long
+  unfolding answerOf
+  long h = rw (lt-ltb 65536 (length s) h)
+
+  faulty : (length s ≤ 65536) × (stopOf s .answer ≡ ill-formed) → answer ≡ ill-formed
+  unfolding answerOf
+  faulty h = rw (le-ltb 65536 (length s) (h .0), h .1)
+
+  asked : Good × (length out < length (escape mode s)) → answer ≡ room-asked
+  unfolding answerOf
+  asked h = rw (le-ltb 65536 (length s) (h .0 .0), h .0 .1, lt-ltb (length out) (length (escape mode s)) (h .1))
+
+  fits : Good × (length (escape mode s) ≤ length out) → answer ≡ done
+  unfolding answerOf
+  fits h = rw (le-ltb 65536 (length s) (h .0 .0), h .0 .1, le-ltb (length out) (length (escape mode s)) (h .1))
+
+  -- What an answer is given for.
+  abbrev For : ℕ → Type 0
+  For a =
+      (a ≡ too-long → 65536 < length s) × (a ≡ ill-formed → (length s ≤ 65536) × (stopOf s .answer ≡ ill-formed))
+      × (a ≡ room-asked → Good × (length out < length (escape mode s))) × (a ≡ done → Good × (length (escape mode s) ≤ length out))
+
+  answered-for : For answer
+  answered-for = ⊎-elim is-long (λ short. ⊎-elim (is-good short) (is-faulty short) (stops-with s)) (below? 65536 (length s))
+    where
+      is-long : 65536 < length s → For answer
+      is-long h = rw (long h) (λ e. h, λ e. absurd (omega arith), λ e. absurd (omega arith), λ e. absurd (omega arith))
+
+      is-faulty : length s ≤ 65536 → stopOf s .answer ≡ ill-formed → For answer
+      is-faulty short h = rw (faulty (short, h)) (λ e. absurd (omega arith), λ e. (short, h), λ e. absurd (omega arith), λ e. absurd (omega arith))
+
+      is-good : length s ≤ 65536 → stopOf s .answer ≡ done → For answer
+      is-good short h =
+          ⊎-elim
+          (λ (k : length out < length (escape mode s)). rw (asked ((short, h), k))
+          (λ e. absurd (omega arith), λ e. absurd (omega arith), λ e. ((short, h), k), λ e. absurd (omega arith)))
+          (λ (k : length (escape mode s) ≤ length out). rw (fits ((short, h), k))
+          (λ e. absurd (omega arith), λ e. absurd (omega arith), λ e. absurd (omega arith), λ e. ((short, h), k)))
+          (below? (length out) (length (escape mode s)))
+
+  line : (n : ℕ) (when then : Type 0) → (when → answer ≡ n) → (answer ≡ n → when) → (answer ≡ n → then) → Line (r .answer) n when then
+  line n when then forth back so =
+      record { only = λ e. back (sym answer-is ∙ e); given = λ w. answer-is ∙ forth w; so = λ w. so (forth w) }
+
+  pub line-3 : Line (r .answer) too-long (65536 < length s) ((r ≡ escaped too-long 0 0) × (out′ ≡ out))
+  unfolding escapedOf writtenOf
+  line-3 = line too-long _ _ long (answered-for .0) (λ e. (result ∙ rw e, room ∙ rw e))
+
+  pub line-1 : Line (r .answer) ill-formed ((length s ≤ 65536) × (stopOf s .answer ≡ ill-formed))
+      ((r ≡ escaped ill-formed 0 (stopOf s .place)) × (out′ ≡ out))
+  unfolding escapedOf writtenOf
+  line-1 = line ill-formed _ _ faulty (answered-for .1) (λ e. (result ∙ rw e, room ∙ rw e))
+
+  pub line-9 : Line (r .answer) room-asked (Good × (length out < length (escape mode s)))
+      ((r ≡ escaped room-asked (length (escape mode s)) 0) × (out′ ≡ out))
+  unfolding escapedOf writtenOf
+  line-9 = line room-asked _ _ asked (answered-for .2) (λ e. (result ∙ rw e, room ∙ rw e))
+
+  pub line-0 : Line (r .answer) done (Good × (length (escape mode s) ≤ length out))
+      ((r ≡ escaped done (length (escape mode s)) 0) × (out′ ≡ sets out 0 (escape mode s)))
+  unfolding escapedOf writtenOf
+  line-0 = line done _ _ fits (answered-for .3) (λ e. (result ∙ rw e, room ∙ rw e))

@@ -1,0 +1,7 @@
+pub mod Stopping
+pub mod Quiet
+pub mod Begins
+pub mod Walking
+pub mod Written
+pub mod Bound
+pub mod Answered
