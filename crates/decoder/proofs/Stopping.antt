@@ -86,36 +86,37 @@ size-some context s h e = go (readChar s) refl e
     go End f g = absurd (omega (arith, end-length s f))
 
 -- One turn: after a run of ordinary bytes what stands at from is read.
-module _ {context : Context} {s : List ℕ} {at from : ℕ} {read : CharRead} (l : Looking context s at) (is : from ≡ runEnd context s at) (reads : read ≡ readChar (take (length s - from) (drop from s))) where
-  at-from : Looking context s from
-  at-from = rw is (looking-run l)
+module _ {context : Context} {s : List ℕ} {at from : ℕ} {read : CharRead} (l : Looking context s at) (is : from ≡ runEnd context s at) where
+  module _ (reads : read ≡ readChar (take (length s - from) (drop from s))) where
+    at-from : Looking context s from
+    at-from = rw is (looking-run l)
 
-  read-is : read ≡ readChar (drop from s)
-  read-is = reads ∙ ap readChar (rest-from s from)
+    read-is : read ≡ readChar (drop from s)
+    read-is = reads ∙ ap readChar (rest-from s from)
 
-  -- It calls for an answer.
-  pub turn-stops : {answer : ℕ} → answer ≡ answerTo (callsFor context) read → (answer ≡ 0 → ⊥)
-      → (answer ≡ stopOf context s .answer) × (from ≡ stopOf context s .place)
-  turn-stops {answer} e some =
-      let f = e ∙ ap (answerTo (callsFor context)) read-is in
-      let g = looking-stops at-from (λ z. some (f ∙ z)) in (f ∙ sym (ap (λ (x : Stop). x .answer) g), sym (ap (λ (x : Stop). x .place) g))
+    -- It calls for an answer.
+    pub turn-stops : {answer : ℕ} → answer ≡ answerTo (callsFor context) read → (answer ≡ 0 → ⊥)
+        → (answer ≡ stopOf context s .answer) × (from ≡ stopOf context s .place)
+    turn-stops {answer} e some =
+        let f = e ∙ ap (answerTo (callsFor context)) read-is in
+        let g = looking-stops at-from (λ z. some (f ∙ z)) in (f ∙ sym (ap (λ (x : Stop). x .answer) g), sym (ap (λ (x : Stop). x .place) g))
 
-  module _ {answer size : ℕ} (e : answer ≡ answerTo (callsFor context) read) (none : answer ≡ 0) (sized : size ≡ sizeOf read) where
-    goes : answerTo (callsFor context) (readChar (drop from s)) ≡ done
-    goes = sym (e ∙ ap (answerTo (callsFor context)) read-is) ∙ none
+    module _ {answer size : ℕ} (e : answer ≡ answerTo (callsFor context) read) (none : answer ≡ 0) (sized : size ≡ sizeOf read) where
+      goes : answerTo (callsFor context) (readChar (drop from s)) ≡ done
+      goes = sym (e ∙ ap (answerTo (callsFor context)) read-is) ∙ none
 
-    size-is : size ≡ sizeOf (readChar (drop from s))
-    size-is = sized ∙ ap sizeOf read-is
+      size-is : size ≡ sizeOf (readChar (drop from s))
+      size-is = sized ∙ ap sizeOf read-is
 
-    -- It calls for none.
-    pub turn-on : Looking context s (from + size)
-    turn-on = rw size-is (looking-on at-from goes)
+      -- It calls for none.
+      pub turn-on : Looking context s (from + size)
+      turn-on = rw size-is (looking-on at-from goes)
 
-    -- Then the turn has passed a byte.
-    pub turn-passes : at < length s → at < from + size
-    turn-passes h = ⊎-elim (λ (k : at < from). omega arith) (λ (k : from ≤ at). some k) (below? at from)
-      where
-        some : from ≤ at → at < from + size
-        some k =
-            let left : 0 < length (drop from s) = simp length-drop (omega arith) in
-            omega (arith, is, size-is, size-some context (drop from s) left goes)
+      -- Then the turn has passed a byte.
+      pub turn-passes : at < length s → at < from + size
+      turn-passes h = ⊎-elim (λ (k : at < from). omega arith) (λ (k : from ≤ at). some k) (below? at from)
+        where
+          some : from ≤ at → at < from + size
+          some k =
+              let left : 0 < length (drop from s) = simp length-drop (omega arith) in
+              omega (arith, is, size-is, size-some context (drop from s) left goes)

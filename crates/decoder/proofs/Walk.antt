@@ -34,7 +34,8 @@ abbrev pub rest : List Name → Context → List ℕ → ℕ → Reading
 rest names context s at = joined at (pieces names context (drop at s))
 
 -- The rooms as they were lent, and as they are with at bytes read: text up to w and errors up to e are written.
-pub record Going (names : List Name) (context : Context) (s text₀ errors₀ : List ℕ) (at : ℕ) (text : List ℕ) (w : ℕ) (errors : List ℕ) (e : ℕ) : Type 0 where
+pub record Going (names : List Name) (context : Context) (s text₀ errors₀ : List ℕ) (at : ℕ) (text : List ℕ) (w : ℕ) (errors : List ℕ) (e : ℕ)
+    : Type 0 where
   pub there : at ≤ length s
   pub so-far : Reading
   pub whole : so-far ⊕ rest names context s at ≡ decode names context s
@@ -98,7 +99,9 @@ module _ {names : List Name} {context : Context} {s text₀ errors₀ : List ℕ
     going-end done = rw (sym whole) (g .wrote)
       where
         whole : g .so-far ≡ decode names context s
-        whole = sym (⊕-none (g .so-far)) ∙ ap (λ (l : List ℕ). g .so-far ⊕ joined at (pieces names context l)) (sym (drop-of-length-le s done)) ∙ g .whole
+        whole =
+            sym (⊕-none (g .so-far)) ∙ ap (λ (l : List ℕ). g .so-far ⊕ joined at (pieces names context l)) (sym (drop-of-length-le s done))
+            ∙ g .whole
 
     -- What is written so far is within the bounds of the whole, and the rooms are as long as they were.
     pub going-room : Narrow names → (w ≤ length s) × (e ≤ 2 * length s) × (length text ≡ length text₀) × (length errors ≡ length errors₀)
@@ -116,7 +119,8 @@ module _ {names : List Name} {context : Context} {s text₀ errors₀ : List ℕ
 -- One turn of the decoder's loop over the built-in names: a run is copied, and then a piece is written.
 module _ {context : Context} {s text₀ errors₀ text errors : List ℕ} {at w e : ℕ} (room : length s + 64 ≤ length text₀) where
   -- A run ends within the source.
-  pub run-there : {from : ℕ} → Going builtin context s text₀ errors₀ at text w errors e → from ≡ at + length (front plain (drop at s)) → from ≤ length s
+  pub run-there : {from : ℕ} → Going builtin context s text₀ errors₀ at text w errors e → from ≡ at + length (front plain (drop at s))
+      → from ≤ length s
   run-there g is = omega (arith, g .there, front-length plain (drop at s), length-drop at s)
 
   -- The run from at on is copied, and from is the place after it.

@@ -41,7 +41,8 @@ fn put_piece(
     place: u32,
 ) -> Written
     requires { ⌜ (w + 8 ≤ length (now text)) × (e + 4 ≤ length (now errors)) ⌝ }
-    ensures { λ r. ⌜ Wrote (readingAt place (pieceOf piece)) (now (text .entry)) w (now (text .exit)) (r .text) (now (errors .entry)) e (now (errors .exit)) (r .errors) ⌝ }
+    ensures { λ r. ⌜ Wrote (readingAt place (pieceOf piece)) (now (text .entry)) w (now (text .exit)) (r .text)
+        (now (errors .entry)) e (now (errors .exit)) (r .errors) ⌝ }
 {
     let reference = piece.reference;
     let next = put_reference(text, w, reference);
@@ -59,8 +60,10 @@ fn decode_pieces(
     text: &mut [u8],
     errors: &mut [u32],
 ) -> Written
-    requires { ⌜ (now table ≡ tableOf builtin) × (length (now s) ≤ 65536) × (length (now s) + 64 ≤ length (now text)) × (2 * length (now s) + 8 ≤ length (now errors)) ⌝ }
-    ensures { λ r. ⌜ Wrote (decode builtin context (now (s .entry))) (now (text .entry)) 0 (now (text .exit)) (r .text) (now (errors .entry)) 0 (now (errors .exit)) (r .errors) ⌝ }
+    requires { ⌜ (now table ≡ tableOf builtin) × (length (now s) ≤ 65536)
+        × (length (now s) + 64 ≤ length (now text)) × (2 * length (now s) + 8 ≤ length (now errors)) ⌝ }
+    ensures { λ r. ⌜ Wrote (decode builtin context (now (s .entry))) (now (text .entry)) 0 (now (text .exit)) (r .text)
+        (now (errors .entry)) 0 (now (errors .exit)) (r .errors) ⌝ }
 {
     let mut at: usize = 0;
     let mut w: usize = 0;
@@ -103,7 +106,8 @@ fn read_covered(
     place: u32,
 ) -> Decoded
     requires { ⌜ (length (now s) ≤ 65536) × (length (now s) + 64 ≤ length (now text)) × (2 * length (now s) + 8 ≤ length (now errors)) ⌝ }
-    ensures { λ r. ⌜ Reads (decode builtin context (now (s .entry))) answer place (now (text .entry)) (now (errors .entry)) r (now (text .exit)) (now (errors .exit)) ⌝ }
+    ensures { λ r. ⌜ Reads (decode builtin context (now (s .entry))) answer place (now (text .entry)) (now (errors .entry))
+        r (now (text .exit)) (now (errors .exit)) ⌝ }
 {
     let table = builtin_names();
     let written = decode_pieces(&table, context, s, text, errors);

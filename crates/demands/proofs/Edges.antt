@@ -61,6 +61,7 @@ names =
     ∷ []
 
 -- The definitions give what each row says.
-pub edges : (map gives closings ≡ map says closings) × (map gives characters ≡ map says characters) × (map gives numbers ≡ map says numbers) × (map gives names ≡ map says names)
+pub edges : (map gives closings ≡ map says closings) × (map gives characters ≡ map says characters)
+    × (map gives numbers ≡ map says numbers) × (map gives names ≡ map says names)
 unfolding computing
 edges = (refl, refl, refl, refl)

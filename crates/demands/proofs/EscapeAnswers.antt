@@ -32,7 +32,12 @@ stops-with s = stop-cases (λ (a : ℕ). (a ≡ done) ⊎ (a ≡ ill-formed)) (�
     called (Illformed n) = inr refl
     called End = inl refl
 
-module _ (mode : Mode) (s out : List ℕ) (r : Escaped) (out′ : List ℕ) (result : r ≡ escapedOf mode s (length out)) (room : out′ ≡ sets out 0 (writtenOf mode s (length out))) where
+-- The contract of `escape`.
+pub record Escapes (mode : Mode) (s out : List ℕ) (r : Escaped) (out′ : List ℕ) : Type 0 where
+  pub answered : r ≡ escapedOf mode s (length out)
+  pub texts : out′ ≡ sets out 0 (writtenOf mode s (length out))
+
+module _ (mode : Mode) (s out : List ℕ) (r : Escaped) (out′ : List ℕ) (d : Escapes mode s out r out′) where
   -- The answer by its definition.
   abbrev answer : ℕ
   answer = answerOf mode s (length out)
@@ -43,7 +48,7 @@ module _ (mode : Mode) (s out : List ℕ) (r : Escaped) (out′ : List ℕ) (res
 
   answer-is : r .answer ≡ answer
   unfolding escapedOf
-  answer-is = ap (λ (x : Escaped). x .answer) result
+  answer-is = ap (λ (x : Escaped). x .answer) (d .answered)
 
   -- Each case has its answer.
   long : 65536 < length s → answer ≡ too-long
@@ -92,19 +97,19 @@ module _ (mode : Mode) (s out : List ℕ) (r : Escaped) (out′ : List ℕ) (res
 
   pub line-3 : Line (r .answer) too-long (65536 < length s) ((r ≡ escaped too-long 0 0) × (out′ ≡ out))
   unfolding escapedOf writtenOf
-  line-3 = line too-long _ _ long (answered-for .0) (λ e. (result ∙ rw e, room ∙ rw e))
+  line-3 = line too-long _ _ long (answered-for .0) (λ e. (d .answered ∙ rw e, d .texts ∙ rw e))
 
   pub line-1 : Line (r .answer) ill-formed ((length s ≤ 65536) × (stopOf s .answer ≡ ill-formed))
       ((r ≡ escaped ill-formed 0 (stopOf s .place)) × (out′ ≡ out))
   unfolding escapedOf writtenOf
-  line-1 = line ill-formed _ _ faulty (answered-for .1) (λ e. (result ∙ rw e, room ∙ rw e))
+  line-1 = line ill-formed _ _ faulty (answered-for .1) (λ e. (d .answered ∙ rw e, d .texts ∙ rw e))
 
   pub line-9 : Line (r .answer) room-asked (Good × (length out < length (escape mode s)))
       ((r ≡ escaped room-asked (length (escape mode s)) 0) × (out′ ≡ out))
   unfolding escapedOf writtenOf
-  line-9 = line room-asked _ _ asked (answered-for .2) (λ e. (result ∙ rw e, room ∙ rw e))
+  line-9 = line room-asked _ _ asked (answered-for .2) (λ e. (d .answered ∙ rw e, d .texts ∙ rw e))
 
   pub line-0 : Line (r .answer) done (Good × (length (escape mode s) ≤ length out))
       ((r ≡ escaped done (length (escape mode s)) 0) × (out′ ≡ sets out 0 (escape mode s)))
   unfolding escapedOf writtenOf
-  line-0 = line done _ _ fits (answered-for .3) (λ e. (result ∙ rw e, room ∙ rw e))
+  line-0 = line done _ _ fits (answered-for .3) (λ e. (d .answered ∙ rw e, d .texts ∙ rw e))

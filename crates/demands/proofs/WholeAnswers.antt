@@ -34,12 +34,15 @@ module _ (context : Context) (s text errors : List ℕ) (r : Decoded) (text′ e
   abbrev Refused : (answer asked place : ℕ) → Type 0
   Refused answer asked place = (r ≡ decoded answer asked 0 place) × (text′ ≡ text) × (errors′ ≡ errors)
 
+  -- The standard's reading of the covered part.
+  abbrev whole : Reading
+  whole = decode builtin context (covered context s)
+
   -- The result, and rooms with the reading at their start.
   abbrev Read : (answer place : ℕ) → Type 0
   Read answer place =
-      (r ≡ decoded answer (length (decode builtin context (covered context s) .text)) (length (decode builtin context (covered context s) .errors)) place)
-      × (text′ ≡ sets text 0 (decode builtin context (covered context s) .text))
-      × (errors′ ≡ sets errors 0 (numbers (decode builtin context (covered context s) .errors)))
+      (r ≡ decoded answer (length (whole .text)) (length (whole .errors)) place)
+      × (text′ ≡ sets text 0 (whole .text)) × (errors′ ≡ sets errors 0 (numbers (whole .errors)))
 
   -- The answer by its definition.
   abbrev answer : ℕ
@@ -73,7 +76,13 @@ module _ (context : Context) (s text errors : List ℕ) (r : Decoded) (text′ e
       (λ e. absurd (other _ _ one (inl refl) e), λ e. absurd (other _ _ one (inr refl) e), λ x y. (short, room, refl))
 
   answered-for : For answer
-  answered-for = ⊎-elim long (λ short. ⊎-elim (λ h. asked short (inl h)) (λ h. ⊎-elim (λ k. asked short (inr k)) (λ k. stopped short (h, k)) (below? (length errors) (2 * length s + 8))) (below? (length text) (length s + 64))) (below? 65536 (length s))
+  answered-for = ⊎-elim long short (below? 65536 (length s))
+    where
+      errors-room : length s ≤ 65536 → length s + 64 ≤ length text → For answer
+      errors-room h k = ⊎-elim (λ l. asked h (inr l)) (λ l. stopped h (k, l)) (below? (length errors) (2 * length s + 8))
+
+      short : length s ≤ 65536 → For answer
+      short h = ⊎-elim (λ k. asked h (inl k)) (errors-room h) (below? (length text) (length s + 64))
 
   -- A line, by the answer's definition.
   line : (n : ℕ) (when then : Type 0) → (when → answer ≡ n) → (answer ≡ n → when) → (answer ≡ n → then) → Line (r .answer) n when then
@@ -95,7 +104,9 @@ module _ (context : Context) (s text errors : List ℕ) (r : Decoded) (text′ e
 
   pub line-9 : Line (r .answer) room-asked ((length s ≤ 65536) × NoRoom) (Refused room-asked (length s + 64) 0)
   unfolding numbers
-  line-9 = line room-asked _ _ (λ w. answers-asked context s text errors (w .0) (w .1)) (answered-for .1) (λ e. answer-says context s text errors 9 e d)
+  line-9 =
+      line room-asked _ _ (λ w. answers-asked context s text errors (w .0) (w .1)) (answered-for .1)
+      (λ e. answer-says context s text errors 9 e d)
 
   pub line-1 : Line (r .answer) ill-formed (Stops ill-formed) (Refused ill-formed 0 (stopOf context s .place))
   unfolding numbers

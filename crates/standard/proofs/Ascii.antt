@@ -70,7 +70,8 @@ joined-run names context p plain =
     (λ s offset. ap (λ (n : ℕ). joined n (pieces names context s)) (omega arith)) more
   where
     more : (b : ℕ) (u s : List ℕ) → p b ≡ true
-        → ((offset : ℕ) → joined offset (pieces names context s) ≡ reading u [] ⊕ joined (offset + length u) (pieces names context (drop (length u) s)))
+        → ((offset : ℕ) → joined offset (pieces names context s)
+        ≡ reading u [] ⊕ joined (offset + length u) (pieces names context (drop (length u) s)))
         → (offset : ℕ) → joined offset (pieces names context (b ∷ s))
         ≡ reading (b ∷ u) [] ⊕ joined (offset + suc (length u)) (pieces names context (drop (length u) s))
     more b u s e rest offset =

@@ -62,7 +62,8 @@ unfolding numbers
 wrote-none text w errors e = record { texts = put-none text w; numbers-of = put-none errors e }
 
 -- Text alone is written.
-pub wrote-text : {t text text′ : List ℕ} {w w′ : ℕ} (errors : List ℕ) (e : ℕ) → Put text w t text′ w′ → Wrote (reading t []) text w text′ w′ errors e errors e
+pub wrote-text : {t text text′ : List ℕ} {w w′ : ℕ} (errors : List ℕ) (e : ℕ) → Put text w t text′ w′
+    → Wrote (reading t []) text w text′ w′ errors e errors e
 unfolding numbers
 wrote-text errors e p = record { texts = p; numbers-of = put-none errors e }
 

@@ -15,11 +15,13 @@ wide-requires : tie.Need-wide-requires
 wide-requires c κs = search needs
 
 returns-2 : tie.Need-returns-2
-returns-2 c = sym (calls-end (c .before .before .before .before .args .context) _ (c .before .before .before .if1 .left) (c .if2 .taken ∙ c .before .wide .ensures ∙ c .before .before .end-of .ensures))
+returns-2 c = sym (calls-end (c .before .before .before .before .args .context) _ (c .before .before .before .if1 .left)
+    (c .if2 .taken ∙ c .before .wide .ensures ∙ c .before .before .end-of .ensures))
 
 returns-3 : tie.Need-returns-3
 returns-3 c =
-    sym (calls-none (c .before .before .before .before .args .context) _ (c .before .before .before .if1 .left) (λ e. c .if2 .left (e ∙ sym (c .before .wide .ensures ∙ c .before .before .end-of .ensures))))
+    sym (calls-none (c .before .before .before .before .args .context) _ (c .before .before .before .if1 .left)
+    (λ e. c .if2 .left (e ∙ sym (c .before .wide .ensures ∙ c .before .before .end-of .ensures))))
 
 pub calls-for-spec : {M : Type 1} → statement M
 calls-for-spec = tie.close (tie.spec returns end-of-requires wide-requires returns-2 returns-3)

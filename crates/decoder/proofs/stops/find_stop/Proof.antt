@@ -39,7 +39,8 @@ answer-to-requires c κs = search needs
 returns : tie.Need-returns Inv-loop μ-loop
 returns c =
     let t = c .before .before .before .before in
-    turn-stops (t .before .before .loop .inv) (t .ordinary-run .ensures) (c .before .before .read-char .ensures) (c .before .answer-to .ensures) (c .if1 .taken)
+    turn-stops (t .before .before .loop .inv) (t .ordinary-run .ensures) (c .before .before .read-char .ensures)
+    (c .before .answer-to .ensures) (c .if1 .taken)
 
 size-of-requires : tie.Need-size-of-requires Inv-loop μ-loop
 size-of-requires c κs = search needs
@@ -48,21 +49,29 @@ add-at : tie.Need-add-at Inv-loop μ-loop
 add-at c =
     let t = c .before .before .before .before .before in
     let l = t .before .before .loop .inv in
-    let turn = turn-on l (t .ordinary-run .ensures) (c .before .before .before .read-char .ensures) (c .before .before .answer-to .ensures) (c .before .if1 .left) (c .size-of .ensures) in
+    let turn = turn-on l (t .ordinary-run .ensures) (c .before .before .before .read-char .ensures)
+    (c .before .before .answer-to .ensures) (c .before .if1 .left) (c .size-of .ensures) in
     omega (arith, turn .there)
 
 loop-less : tie.Need-loop-less Inv-loop μ-loop
 loop-less c =
     let t = c .before .before .before .before .before in
     let l = t .before .before .loop .inv in
-    let turn = turn-passes l (t .ordinary-run .ensures) (c .before .before .before .read-char .ensures) (c .before .before .answer-to .ensures) (c .before .if1 .left) (c .size-of .ensures) in
-    omega (arith, turn (t .before .loop-test .taken), turn-on l (t .ordinary-run .ensures) (c .before .before .before .read-char .ensures) (c .before .before .answer-to .ensures) (c .before .if1 .left) (c .size-of .ensures) .there)
+    let turn = turn-passes l (t .ordinary-run .ensures) (c .before .before .before .read-char .ensures)
+    (c .before .before .answer-to .ensures) (c .before .if1 .left) (c .size-of .ensures) in
+    omega (
+      arith,
+      turn (t .before .loop-test .taken),
+      turn-on l (t .ordinary-run .ensures) (c .before .before .before .read-char .ensures)
+          (c .before .before .answer-to .ensures) (c .before .if1 .left) (c .size-of .ensures) .there,
+    )
 
 loop-again : tie.Need-loop-again Inv-loop μ-loop
 loop-again c =
     let t = c .before .before .before .before .before in
     let l = t .before .before .loop .inv in
-    let turn = turn-on l (t .ordinary-run .ensures) (c .before .before .before .read-char .ensures) (c .before .before .answer-to .ensures) (c .before .if1 .left) (c .size-of .ensures) in
+    let turn = turn-on l (t .ordinary-run .ensures) (c .before .before .before .read-char .ensures)
+    (c .before .before .answer-to .ensures) (c .before .if1 .left) (c .size-of .ensures) in
     turn
 
 returns-2 : tie.Need-returns-2 Inv-loop μ-loop

@@ -41,7 +41,8 @@ same-length c =
     let t = c in
     let l = t .before .before .before .before .before .before .before .before in
     let a = l .before .before .before .before .before in
-    going-room (turn-run (a .pre .2) (l .loop .inv) (t .before .before .before .before .before .before .plain-run .ensures) (t .before .before .before .copy .ensures)) builtin-narrow .2
+    going-room (turn-run (a .pre .2) (l .loop .inv) (t .before .before .before .before .before .before .plain-run .ensures)
+    (t .before .before .before .copy .ensures)) builtin-narrow .2
 
 same-length-2 : tie.Need-same-length-2 Inv-loop μ-loop
 same-length-2 c = going-room (c .before .before .before .before .before .before .before .before .loop .inv) builtin-narrow .3
@@ -51,7 +52,8 @@ returns c =
     let t = c in
     let l = t .before .before .before .before .before .before .before .before in
     let a = l .before .before .before .before .before in
-    going-end (turn-run (a .pre .2) (l .loop .inv) (t .before .before .before .before .before .before .plain-run .ensures) (t .before .before .before .copy .ensures)) (omega arith)
+    going-end (turn-run (a .pre .2) (l .loop .inv) (t .before .before .before .before .before .before .plain-run .ensures)
+    (t .before .before .before .copy .ensures)) (omega arith)
 
 sub-piece-at : tie.Need-sub-piece-at Inv-loop μ-loop
 sub-piece-at c =
@@ -90,7 +92,8 @@ put-piece-requires c κs =
     let t = c .before .before .before .before in
     let l = t .before .before .before .before .before .before .before .before in
     let a = l .before .before .before .before .before in
-    let r = going-room (turn-run (a .pre .2) (l .loop .inv) (t .before .before .before .before .before .before .plain-run .ensures) (t .before .before .before .copy .ensures)) builtin-narrow in
+    let r = going-room (turn-run (a .pre .2) (l .loop .inv) (t .before .before .before .before .before .before .plain-run .ensures)
+    (t .before .before .before .copy .ensures)) builtin-narrow in
     (omega (arith, r .0, r .2, a .pre .2), omega (arith, r .1, r .3, a .pre .3))
 
 add-at : tie.Need-add-at Inv-loop μ-loop
@@ -101,7 +104,13 @@ add-at c =
     let h = run-there (a .pre .2) (l .loop .inv) (t .before .before .before .before .before .before .plain-run .ensures) in
     let more : t .before .before .before .before .before .before .plain-run .result < length (a .args .s .now) = omega arith in
     let q = c .before .before .before .before .before .before .before .before .piece-at in
-    omega (arith, a .pre .1, turn-piece (a .pre .2) (q .result) (turn-run (a .pre .2) (l .loop .inv) (t .before .before .before .before .before .before .plain-run .ensures) (t .before .before .before .copy .ensures)) (a .pre .0) (q .ensures) more (c .before .before .before .before .before .put-piece .ensures) .there)
+    omega (
+      arith,
+      a .pre .1,
+      turn-piece (a .pre .2) (q .result)
+          (turn-run (a .pre .2) (l .loop .inv) (t .before .before .before .before .before .before .plain-run .ensures)
+          (t .before .before .before .copy .ensures)) (a .pre .0) (q .ensures) more (c .before .before .before .before .before .put-piece .ensures) .there,
+    )
 
 loop-less : tie.Need-loop-less Inv-loop μ-loop
 loop-less c =
@@ -111,7 +120,15 @@ loop-less c =
     let h = run-there (a .pre .2) (l .loop .inv) (t .before .before .before .before .before .before .plain-run .ensures) in
     let more : t .before .before .before .before .before .before .plain-run .result < length (a .args .s .now) = omega arith in
     let q = c .before .before .before .before .before .before .before .before .piece-at in
-    omega (arith, turn-piece (a .pre .2) (q .result) (turn-run (a .pre .2) (l .loop .inv) (t .before .before .before .before .before .before .plain-run .ensures) (t .before .before .before .copy .ensures)) (a .pre .0) (q .ensures) more (c .before .before .before .before .before .put-piece .ensures) .there, piece-some (a .args .context) (a .args .s .now) (t .before .before .before .before .before .before .plain-run .result) (q .result) (a .pre .0) (q .ensures) more)
+    omega (
+      arith,
+      turn-piece (a .pre .2) (q .result)
+          (turn-run (a .pre .2) (l .loop .inv) (t .before .before .before .before .before .before .plain-run .ensures)
+          (t .before .before .before .copy .ensures)) (a .pre .0) (q .ensures) more
+          (c .before .before .before .before .before .put-piece .ensures) .there,
+      piece-some (a .args .context) (a .args .s .now)
+          (t .before .before .before .before .before .before .plain-run .result) (q .result) (a .pre .0) (q .ensures) more,
+    )
 
 loop-again : tie.Need-loop-again Inv-loop μ-loop
 loop-again c =
@@ -121,7 +138,9 @@ loop-again c =
     let h = run-there (a .pre .2) (l .loop .inv) (t .before .before .before .before .before .before .plain-run .ensures) in
     let more : t .before .before .before .before .before .before .plain-run .result < length (a .args .s .now) = omega arith in
     let q = c .before .before .before .before .before .before .before .before .piece-at in
-    turn-piece (a .pre .2) (q .result) (turn-run (a .pre .2) (l .loop .inv) (t .before .before .before .before .before .before .plain-run .ensures) (t .before .before .before .copy .ensures)) (a .pre .0) (q .ensures) more (c .before .before .before .before .before .put-piece .ensures)
+    turn-piece (a .pre .2) (q .result)
+    (turn-run (a .pre .2) (l .loop .inv) (t .before .before .before .before .before .before .plain-run .ensures)
+    (t .before .before .before .copy .ensures)) (a .pre .0) (q .ensures) more (c .before .before .before .before .before .put-piece .ensures)
 
 same-length-3 : tie.Need-same-length-3 Inv-loop μ-loop
 same-length-3 c = going-room (c .before .loop .inv) builtin-narrow .2

@@ -54,7 +54,8 @@ returns-4 : tie.Need-returns-4
 returns-4 c =
     let a = c .before .before .before .before .before .before .before .before .before .before .before .before .before .before .before .args in
     whole-done (a .context) (a .source .now) (a .text .now) (a .errors .now) (omega arith) (omega arith) (omega arith)
-    (sym (c .before .before .before .before .before .before .before .before .find-stop .ensures .0) ∙ c .before .before .before .before .before .before .before .if4 .taken) (c .before .before .before .before .read-covered .ensures)
+    (sym (c .before .before .before .before .before .before .before .before .find-stop .ensures .0)
+    ∙ c .before .before .before .before .before .before .before .if4 .taken) (c .before .before .before .before .read-covered .ensures)
 
 slice-aggregate-read-covered : tie.Need-slice-aggregate-read-covered
 slice-aggregate-read-covered c =
@@ -87,7 +88,10 @@ returns-5 : tie.Need-returns-5
 returns-5 c =
     let a = c .before .before .before .before .before .before .before .before .before .before .before .before .before .before .before .before .before .args in
     whole-left (a .context) (a .source .now) (a .text .now) (a .errors .now) (omega arith) (omega arith) (omega arith) _
-    (sym (c .before .before .before .before .before .before .before .before .before .before .find-stop .ensures .0) ∙ c .before .before .before .before .before .before .before .before .if5 .taken) (c .before .before .before .before .before .before .before .before .before .before .find-stop .ensures .1) (c .before .before .before .before .read-covered2 .ensures)
+    (sym (c .before .before .before .before .before .before .before .before .before .before .find-stop .ensures .0)
+    ∙ c .before .before .before .before .before .before .before .before .if5 .taken)
+    (c .before .before .before .before .before .before .before .before .before .before .find-stop .ensures .1)
+    (c .before .before .before .before .read-covered2 .ensures)
 
 cast-t24 : tie.Need-cast-t24
 cast-t24 c =

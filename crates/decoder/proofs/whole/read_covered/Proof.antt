@@ -21,7 +21,11 @@ cast-t16 c =
 cast-t18 : tie.Need-cast-t18
 cast-t18 c =
     let a = c .before .before .before .before .before .before .before .before .before .before .before .before .before .before in
-    omega (arith, wrote-few (a .args .context) (a .args .s .now) (a .pre .0) (c .before .before .before .before .before .before .decode-pieces .ensures))
+    omega (
+      arith,
+      wrote-few (a .args .context) (a .args .s .now) (a .pre .0)
+          (c .before .before .before .before .before .before .decode-pieces .ensures),
+    )
 
 same-length : tie.Need-same-length
 same-length c = search needs

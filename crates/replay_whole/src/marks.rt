@@ -1,0 +1,44 @@
+// Rooms are marked before a call, so that it shows what the call touched.
+const BYTE: u8 = 0xEE;
+
+const NUMBER: u32 = 0xEEEEEEEE;
+
+pub fn mark_bytes(room: &mut [u8]) {
+    let mut at: usize = 0;
+    while at < room.len() {
+        room[at] = BYTE;
+        at += 1;
+    }
+}
+
+pub fn mark_numbers(room: &mut [u32]) {
+    let mut at: usize = 0;
+    while at < room.len() {
+        room[at] = NUMBER;
+        at += 1;
+    }
+}
+
+// Whether every byte from `from` on has the mark.
+pub fn bytes_marked(room: &[u8], from: usize) -> bool {
+    let mut at = from;
+    while at < room.len() {
+        if room[at] != BYTE {
+            return false;
+        }
+        at += 1;
+    }
+    true
+}
+
+// Whether every number from `from` on has the mark.
+pub fn numbers_marked(room: &[u32], from: usize) -> bool {
+    let mut at = from;
+    while at < room.len() {
+        if room[at] != NUMBER {
+            return false;
+        }
+        at += 1;
+    }
+    true
+}

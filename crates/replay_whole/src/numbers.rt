@@ -1,0 +1,37 @@
+// Numbers that bytes make.
+ghost use Prim.Native.Nat.{_≤_, _<_, _+_};
+ghost use lib.ListN.{length};
+use std::num::wrapping_add_usize;
+
+fn wide(byte: u8) -> usize
+    ensures { λ r. ⌜ r < 256 ⌝ }
+{
+    byte as usize
+}
+
+// The number of two bytes, the lower first.
+pub fn short_at(s: &[u8], at: usize) -> usize
+    requires { ⌜ at + 2 ≤ length (now s) ⌝ }
+    ensures { λ r. ⌜ r < 65536 ⌝ }
+{
+    wide(s[at]) + 256 * wide(s[at + 1])
+}
+
+// The number of four bytes, the lower first.
+pub fn number_at(s: &[u8], at: usize) -> usize
+    requires { ⌜ at + 4 ≤ length (now s) ⌝ }
+    ensures { λ r. ⌜ r < 4294967296 ⌝ }
+{
+    short_at(s, at) + 65536 * short_at(s, at + 2)
+}
+
+// The sum of bytes.
+pub fn sum(bytes: &[u8]) -> usize {
+    let mut total: usize = 0;
+    let mut i: usize = 0;
+    while i < bytes.len() {
+        total = wrapping_add_usize(total, wide(bytes[i]));
+        i += 1;
+    }
+    total
+}
