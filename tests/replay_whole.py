@@ -1,12 +1,12 @@
 """A second reading of the whole-slice calls: what decode whole and escape must answer, written down for a replay.
 
 Made from the paper alone: document 01 (what the bench reads, pieces, names, whole-slice calls, marked sources, table of answers) and
-section 9 of DESIGN.md. No code of the project was looked at. The names come from Python's copy of the WHATWG list, well-formed UTF-8
+its settled readings. No code of the project was looked at. The names come from Python's copy of the WHATWG list, well-formed UTF-8
 from the grammar in RFC 3629, section 4. Only the standard library is needed.
 
-    python3 replay_whole.py DIR
+    python3 tests/replay_whole.py crates/replay_whole
 
-writes DIR/stdin, the records to be replayed, and DIR/stdout, one line for each:
+writes to that folder stdin, the records to be replayed, and stdout, one line for each:
 
     record   kind, text room, error room, fill, n, then n bytes: 1 + 4 + 4 + 4 + 2 + n bytes, numbers little-endian;
              the source is the n bytes and then `fill` times `x`;
