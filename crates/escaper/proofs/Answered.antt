@@ -37,6 +37,7 @@ stop-small (suc k) place (b ∷ s) = stop-small k (suc place) s
 pub no-fault : (s : List ℕ) → (stopOf s .answer ≡ ill-formed → ⊥) → stopOf s .answer ≡ done
 no-fault s h = omega (arith, stop-small 0 0 s)
 
+-- An answer by its three numbers.
 abbrev pub escaped : ℕ → ℕ → ℕ → Escaped
 escaped answer text place = record { answer = answer; text = text; place = place }
 

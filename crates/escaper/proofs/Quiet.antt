@@ -26,7 +26,7 @@ quote-ascii : (mode : Mode) → quoteOf mode < 0x80
 quote-ascii Text = omega arith
 quote-ascii Attribute = omega arith
 
--- The bytes after the first of a character are quiet.
+-- A byte that can stand after the first of a character is quiet.
 quiet-tail : (mode : Mode) (n : ℕ) → quiet (quoteOf mode) (0x80 + n % 64) ≡ true
 unfolding quiet
 quiet-tail mode n =
@@ -35,6 +35,7 @@ quiet-tail mode n =
     rw (ne-eqb b (code "&") (omega arith), ne-eqb b (code "<") (omega arith), ne-eqb b (code ">") (omega arith))
     (rw (ne-eqb b 0xC2 (omega arith), ne-eqb b (quoteOf mode) (omega arith)) refl)
 
+-- The bytes after the first of a character are quiet.
 quiet-tails : (mode : Mode) (c : ℕ) → every (quiet (quoteOf mode)) (drop 1 (octets c)) ≡ true
 unfolding octets
 quiet-tails mode c =

@@ -3,17 +3,18 @@ ghost use mathlib.Core.Path.{_≡_};
 ghost use Prim.Native.Nat.{_≤_, _+_};
 ghost use lib.ListN.{length, take, drop};
 ghost use Rattle.standard.specs.Notation.{front, every};
-ghost use Rattle.escaper.specs.Escape.{stopOf};
 ghost use Rattle.standard.proofs.Fronts.{Skipping};
+ghost use Rattle.escaper.specs.Escape.{stopOf};
 ghost use Rattle.escaper.specs.Walk.{ascii};
 use standard::characters::CharRead;
 
-// The answer, 0 or 1, and how many bytes stand before.
+// The answer, 0 or 1, and how many bytes stand before that place.
 pub(crate) struct Stopped {
     pub(crate) answer: u32,
     pub(crate) place: usize,
 }
 
+// The byte is a character of its own.
 fn is_ascii(b: u8) -> bool
     ensures { λ r. ⌜ r ≡ ascii b ⌝ }
 {

@@ -17,23 +17,11 @@ fn quote_of(mode: Mode) -> u8
     }
 }
 
-// A byte is neither `&`, `<`, `>` nor `quote`, and no C2, with which U+00A0 begins.
+// The byte is neither `&`, `<`, `>`, `quote` nor C2, with which U+00A0 begins.
 fn is_quiet(b: u8, quote: u8) -> bool
     ensures { λ r. ⌜ r ≡ quiet quote b ⌝ }
 {
-    if b == b'&' {
-        return false;
-    }
-    if b == b'<' {
-        return false;
-    }
-    if b == b'>' {
-        return false;
-    }
-    if b == 0xC2 {
-        return false;
-    }
-    b != quote
+    (b != b'&') & (b != b'<') & (b != b'>') & (b != 0xC2) & (b != quote)
 }
 
 // The 32 bytes from `at` on are quiet.
@@ -82,7 +70,7 @@ fn run_end(s: &[u8], from: usize, quote: u8) -> usize
     at
 }
 
-// The same for a mode.
+// The same with the byte of a mode.
 pub(crate) fn quiet_end(mode: Mode, s: &[u8], from: usize) -> usize
     requires { ⌜ from ≤ length (now s) ⌝ }
     ensures { λ r. ⌜ r ≡ from + length (front (quiet (quoteOf mode)) (drop from (now (s .entry)))) ⌝ }

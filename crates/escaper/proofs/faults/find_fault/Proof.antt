@@ -20,11 +20,10 @@ loop-holds : tie.Need-loop-holds Inv-loop μ-loop
 loop-holds c = (refl, omega arith)
 
 -- A run is passed.
-run-passed : (c : tie.After-ascii-end Inv-loop μ-loop)
-    → (stopAt (c .before .before .before .before .before .before .before .args .s .now) 0
-    ≡ stopAt (c .before .before .before .before .before .before .before .args .s .now) (c .ascii-end .result))
-    × (c .before .before .before .before .before .loop .at < c .ascii-end .result)
-    × (c .ascii-end .result ≤ length (c .before .before .before .before .before .before .before .args .s .now))
+run-passed : (c : tie.After-ascii-end Inv-loop μ-loop) →
+    let s = c .before .before .before .before .before .before .before .args .s .now in
+    let end = c .ascii-end .result in
+    (stopAt s 0 ≡ stopAt s end) × (c .before .before .before .before .before .loop .at < end) × (end ≤ length s)
 run-passed c =
     let s = c .before .before .before .before .before .before .before .args .s .now in
     let l = c .before .before .before .before .before .loop in
@@ -33,13 +32,11 @@ run-passed c =
     (l .inv .0 ∙ rw e (stop-ascii s (l .at)), omega arith, omega arith)
 
 -- A character is passed.
-character-passed : (c : tie.After-known-told Inv-loop μ-loop)
-    → (stopAt (c .before .before .before .before .before .before .before .before .before .before .before .args .s .now) 0
-    ≡ stopAt (c .before .before .before .before .before .before .before .before .before .before .before .args .s .now)
-    (c .before .before .before .before .before .before .before .before .before .loop .at + c .before .len .given .0 .1 .0))
-    × (1 ≤ c .before .len .given .0 .1 .0)
-    × (c .before .before .before .before .before .before .before .before .before .loop .at + c .before .len .given .0 .1 .0
-    ≤ length (c .before .before .before .before .before .before .before .before .before .before .before .args .s .now))
+character-passed : (c : tie.After-known-told Inv-loop μ-loop) →
+    let s = c .before .before .before .before .before .before .before .before .before .before .before .args .s .now in
+    let at = c .before .before .before .before .before .before .before .before .before .loop .at in
+    let len = c .before .len .given .0 .1 .0 in
+    (stopAt s 0 ≡ stopAt s (at + len)) × (1 ≤ len) × (at + len ≤ length s)
 character-passed c =
     let s = c .before .before .before .before .before .before .before .before .before .before .before .args .s .now in
     let l = c .before .before .before .before .before .before .before .before .before .loop in

@@ -1,5 +1,7 @@
 -- special_at is what specialOf says: each test of the code is a test of the definition.
-use mathlib.Core.Path.{sym}
+use Prim.Native.Nat.{_+_}
+use mathlib.Core.Path.{_≡_, sym, _∙_}
+use lib.ListN.{getD}
 use borrow.Author.Tests.{eq-eqb, ne-eqb}
 use borrow.Author.Needs.{needs}
 use Rattle.escaper.specs.Walk.{specialOf}
@@ -35,11 +37,17 @@ byte-at-requires c κs = search needs
 
 returns-5 : tie.Need-returns-5
 unfolding specialOf
-returns-5 c = rw (sym (c .before .byte-at .ensures)) (search tests)
+returns-5 c =
+    let a = c .before .before .before .before .before .before .before .before .args in
+    let after : getD (a .s .now) (a .at + 1) 0 ≡ 0xA0 = sym (c .before .byte-at .ensures) ∙ c .if5 .taken in
+    search tests
 
 returns-6 : tie.Need-returns-6
 unfolding specialOf
-returns-6 c = rw (sym (c .before .byte-at .ensures)) (search tests)
+returns-6 c =
+    let a = c .before .before .before .before .before .before .before .before .args in
+    let after : getD (a .s .now) (a .at + 1) 0 ≡ 0xA0 → ⊥ = λ e. c .if5 .left (c .before .byte-at .ensures ∙ e) in
+    search tests
 
 pub special-at-spec : {M : Type 1} → statement M
 special-at-spec =
