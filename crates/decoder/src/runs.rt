@@ -6,23 +6,11 @@ ghost use Rattle.standard.specs.Notation.{front, every};
 ghost use Rattle.decoder.specs.Runs as spec;
 use standard::Context;
 
-// A byte that is a character of its own, stands for itself and has no error.
+// A byte that is a character of its own, stands for itself and has no error. No branches, so that a block is tested at once.
 fn plain(b: u8) -> bool
     ensures { λ r. ⌜ r ≡ spec.plain b ⌝ }
 {
-    if b == 0xA {
-        return true;
-    }
-    if b == 0x9 {
-        return true;
-    }
-    if b < 0x20 {
-        return false;
-    }
-    if 0x7E < b {
-        return false;
-    }
-    b != b'&'
+    ((0x20 <= b) & (b <= 0x7E) & (b != b'&')) | (b == 0xA) | (b == 0x9)
 }
 
 // Whether the 32 bytes from at on are plain. The loop has no early end, so it is done many bytes at a time.
@@ -84,13 +72,7 @@ pub(crate) fn end_of(context: Context) -> u8
 fn ordinary(b: u8, end: u8) -> bool
     ensures { λ r. ⌜ r ≡ spec.ordinary end b ⌝ }
 {
-    if b == 0 {
-        return false;
-    }
-    if 0x7F < b {
-        return false;
-    }
-    b != end
+    (0x1 <= b) & (b <= 0x7F) & (b != end)
 }
 
 fn ordinary_block(s: &[u8], at: usize, end: u8) -> bool
