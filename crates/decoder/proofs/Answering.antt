@@ -27,7 +27,6 @@ use Rattle.standard.proofs.Puts.{numbers-length}
 use Rattle.standard.proofs.Stops.{stop-done, stop-cases}
 use Rattle.decoder.specs.declared.whole.Decoded.{Decoded}
 use Rattle.decoder.specs.Whole.{
-  longest-source,
   textRoom,
   errorRoom,
   decoded,

@@ -17,10 +17,10 @@ use Rattle.standard.specs.declared.names.Found.{Found}
 use Rattle.standard.specs.Notation.{if_then_else_, next, front}
 use Rattle.standard.specs.Classes.{alphanumeric}
 use Rattle.standard.specs.Names.{Name, longest}
-use Rattle.standard.specs.Pieces.{piece, charRefText, unknownName, namedBy}
+use Rattle.standard.specs.Pieces.{piece, charRefText, unknownName, namedBy, staysText}
 use Rattle.standard.proofs.Fronts.{Stopped, Skipping, stopped-at, stopped-end, skipped}
 use Rattle.standard.proofs.Narrow.{longest-fits}
-use Rattle.decoder.specs.Pieces.{pieceOf, oneOf, staysText}
+use Rattle.decoder.specs.Pieces.{pieceOf, oneOf}
 use Rattle.standard.proofs.Nexts.{next-at, next-none, next-front}
 use Rattle.decoder.proofs.PieceLaws.{alone}
 

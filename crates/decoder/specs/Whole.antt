@@ -8,15 +8,11 @@ use lib.ListN.{length}
 use lib.Seq.{sets}
 use Rattle.standard.specs.declared.Context.{Context}
 use Rattle.standard.specs.Notation.{if_then_else_}
-use Rattle.standard.specs.Answers.{done, ill-formed, nul, too-long, context-end, room-asked}
+use Rattle.standard.specs.Answers.{done, ill-formed, nul, too-long, context-end, room-asked, longest-slice}
 use Rattle.standard.specs.Errors.{numbers}
 use Rattle.standard.specs.NameList.{builtin}
 use Rattle.standard.specs.Reading.{Stop, stopOf, covered, Reading, reading, decode, text-bound, errors-bound}
 use Rattle.decoder.specs.declared.whole.Decoded.{Decoded}
-
--- The longest source.
-abbrev pub longest-source : ℕ
-longest-source = 65536
 
 -- The room that a source of n bytes asks for: text bytes, and error numbers.
 abbrev pub textRoom : ℕ → ℕ
@@ -32,7 +28,7 @@ decoded answer text errors place = record { answer = answer; text = text; errors
 -- The answer for a source, with rooms for so many text bytes and error numbers: 3, then 9, then why the source stops.
 unfoldable pub answerOf : Context → List ℕ → (texts codes : ℕ) → ℕ
 answerOf context s texts codes =
-    if ltb longest-source (length s) then too-long
+    if ltb longest-slice (length s) then too-long
     else if ltb texts (textRoom (length s)) || ltb codes (errorRoom (length s)) then room-asked
     else stopOf context s .answer
 

@@ -7,7 +7,7 @@ ghost use Rattle.standard.specs.Notation.{if_then_else_, next};
 ghost use Rattle.standard.specs.Utf8.{readChar};
 ghost use Rattle.standard.specs.Names.{records, longest};
 ghost use Rattle.standard.specs.Pieces as standard;
-ghost use Rattle.decoder.specs.Pieces.{pieceOf, oneOf, staysText};
+ghost use Rattle.decoder.specs.Pieces.{pieceOf, oneOf};
 use crate::classes::alphanumeric;
 use crate::classes::character_code;
 use crate::numbers::do_numeric;
@@ -41,7 +41,7 @@ impl Piece {
     }
 }
 
-// Whether byte is next at `at`.
+// Whether byte is next at `at`. Past the end nothing is, which is all that `end_of_file` comes to here.
 fn next_is(rest: &[u8], at: usize, byte: u8) -> bool
     ensures { λ r. ⌜ r ≡ next byte (drop at (now (rest .entry))) ⌝ }
 {
@@ -102,7 +102,7 @@ fn unknown_name(rest: &[u8]) -> bool
 
 // Whether what stands at `at` keeps a name without `;` from being a reference: `=`, a letter or a digit, in an attribute.
 fn stays_text(context: Context, rest: &[u8], at: usize) -> bool
-    ensures { λ r. ⌜ r ≡ staysText context (drop at (now (rest .entry))) ⌝ }
+    ensures { λ r. ⌜ r ≡ standard.staysText context (drop at (now (rest .entry))) ⌝ }
 {
     if let Context::Text = context {
         return false;

@@ -16,8 +16,8 @@ use Rattle.standard.proofs.Choice.{below?}
 use Rattle.standard.proofs.Stops.{stop-cases}
 use Rattle.escaper.specs.declared.Mode.{Mode}
 use Rattle.escaper.specs.declared.Escaped.{Escaped}
-use Rattle.escaper.specs.Escape.{escape, stopOf, answerOf, writtenOf, escapedOf}
-use Rattle.demands.proofs.Lines.{Line}
+use Rattle.escaper.specs.Escape.{escape, stopOf, answerOf, writtenOf, escapedOf, Escapes}
+use Rattle.demands.proofs.Lines.{Line, line}
 
 abbrev pub escaped : (answer text place : ℕ) → Escaped
 escaped answer text place = record { answer = answer; text = text; place = place }
@@ -31,11 +31,6 @@ stops-with s = stop-cases (λ (a : ℕ). (a ≡ done) ⊎ (a ≡ ill-formed)) (�
     called (Incomplete n) = inr refl
     called (Illformed n) = inr refl
     called End = inl refl
-
--- The contract of `escape`.
-pub record Escapes (mode : Mode) (s out : List ℕ) (r : Escaped) (out′ : List ℕ) : Type 0 where
-  pub answered : r ≡ escapedOf mode s (length out)
-  pub texts : out′ ≡ sets out 0 (writtenOf mode s (length out))
 
 module _ (mode : Mode) (s out : List ℕ) (r : Escaped) (out′ : List ℕ) (d : Escapes mode s out r out′) where
   -- The answer by its definition.
@@ -91,25 +86,28 @@ module _ (mode : Mode) (s out : List ℕ) (r : Escaped) (out′ : List ℕ) (d :
           (λ e. absurd (omega arith), λ e. absurd (omega arith), λ e. absurd (omega arith), λ e. ((short, h), k)))
           (below? (length out) (length (escape mode s)))
 
-  line : (n : ℕ) (when then : Type 0) → (when → answer ≡ n) → (answer ≡ n → when) → (answer ≡ n → then) → Line (r .answer) n when then
-  line n when then forth back so =
-      record { only = λ e. back (sym answer-is ∙ e); given = λ w. answer-is ∙ forth w; so = λ w. so (forth w) }
-
   pub line-3 : Line (r .answer) too-long (65536 < length s) ((r ≡ escaped too-long 0 0) × (out′ ≡ out))
   unfolding escapedOf writtenOf
-  line-3 = line too-long _ _ long (answered-for .0) (λ e. (d .answered ∙ rw e, d .texts ∙ rw e))
+  line-3 = line answer too-long _ _ answer-is long (answered-for .0) (λ e. (d .answered ∙ rw e, d .texts ∙ rw e))
 
   pub line-1 : Line (r .answer) ill-formed ((length s ≤ 65536) × (stopOf s .answer ≡ ill-formed))
       ((r ≡ escaped ill-formed 0 (stopOf s .place)) × (out′ ≡ out))
   unfolding escapedOf writtenOf
-  line-1 = line ill-formed _ _ faulty (answered-for .1) (λ e. (d .answered ∙ rw e, d .texts ∙ rw e))
+  line-1 = line answer ill-formed _ _ answer-is faulty (answered-for .1) (λ e. (d .answered ∙ rw e, d .texts ∙ rw e))
 
   pub line-9 : Line (r .answer) room-asked (Good × (length out < length (escape mode s)))
       ((r ≡ escaped room-asked (length (escape mode s)) 0) × (out′ ≡ out))
   unfolding escapedOf writtenOf
-  line-9 = line room-asked _ _ asked (answered-for .2) (λ e. (d .answered ∙ rw e, d .texts ∙ rw e))
+  line-9 = line answer room-asked _ _ answer-is asked (answered-for .2) (λ e. (d .answered ∙ rw e, d .texts ∙ rw e))
 
   pub line-0 : Line (r .answer) done (Good × (length (escape mode s) ≤ length out))
       ((r ≡ escaped done (length (escape mode s)) 0) × (out′ ≡ sets out 0 (escape mode s)))
   unfolding escapedOf writtenOf
-  line-0 = line done _ _ fits (answered-for .3) (λ e. (d .answered ∙ rw e, d .texts ∙ rw e))
+  line-0 = line answer done _ _ answer-is fits (answered-for .3) (λ e. (d .answered ∙ rw e, d .texts ∙ rw e))
+
+  -- No other answer is given.
+  pub no-other : (r .answer ≡ too-long) ⊎ ((r .answer ≡ ill-formed) ⊎ ((r .answer ≡ room-asked) ⊎ (r .answer ≡ done)))
+  no-other =
+      rw answer-is
+      (⊎-elim (λ h. inl (long h)) (λ short. ⊎-elim (λ h. ⊎-elim (λ k. inr (inr (inl (asked ((short, h), k))))) (λ k. inr (inr (inr (fits ((short, h), k)))))
+      (below? (length out) (length (escape mode s)))) (λ h. inr (inl (faulty (short, h)))) (stops-with s)) (below? 65536 (length s)))

@@ -22,6 +22,9 @@ use Rattle.standard.proofs.Back as Back
 use Rattle.standard.proofs.Soonest as Soonest
 use Rattle.standard.proofs.Longest as Longest
 use Rattle.standard.proofs.Lists as Lists
+use Rattle.standard.specs.Errors.{numbers}
+use Rattle.standard.proofs.Puts.{numbers-length}
+use Rattle.decoder.specs.Whole.{textRoom, errorRoom}
 use Rattle.escaper.specs.declared.Mode.{Mode}
 use Rattle.escaper.specs.Escape.{escape}
 use Rattle.escaper.proofs.Bound as Bound
@@ -69,6 +72,16 @@ text-short context s = text-fits builtin context (covered context s) builtin-nar
 pub errors-few : (context : Context) (s : List ℕ) → length (decode builtin context (covered context s) .errors) ≤ length s
 errors-few context s =
     let few = errors-fit builtin context (covered context s) in omega (arith, length-take (stopOf context s .place) s)
+
+-- The rooms that a whole source asks for always suffice.
+pub rooms-suffice : (context : Context) (s : List ℕ) → (length (decode builtin context (covered context s) .text) ≤ textRoom (length s))
+    × (length (numbers (decode builtin context (covered context s) .errors)) ≤ errorRoom (length s))
+rooms-suffice context s =
+    let few = errors-few context s in
+    let short = text-short context s in (
+      omega (arith, length-take (stopOf context s .place) s),
+      omega (arith, numbers-length (decode builtin context (covered context s) .errors)),
+    )
 
 -- The characters that get error 5 are those that document 01 lists.
 pub characters-listed : (c : ℕ) → characterCode c ≡ (if Lists.withError c then 5 else 0)

@@ -5,4 +5,5 @@ pub mod Marked
 pub mod Edges
 pub mod WholeAnswers
 pub mod EscapeAnswers
+pub mod EscapeEdges
 pub mod Unique

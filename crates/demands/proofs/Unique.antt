@@ -62,4 +62,4 @@ decode-whole κs a x y e f p q = (
 
 -- The answer, and the room.
 pub escape : FixesLent 2 escape-kinds.ps escape-kinds.r (List ℕ) (λ κs e. e .1 .1 .0 .now) escape-reads.Post
-escape κs a x y e f p q = (only (p .0) (q .0), only (p .1) (q .1))
+escape κs a x y e f p q = (only (p .answered) (q .answered), only (p .texts) (q .texts))

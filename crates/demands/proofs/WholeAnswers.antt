@@ -16,7 +16,7 @@ use Rattle.standard.proofs.Choice.{below?}
 use Rattle.decoder.specs.declared.whole.Decoded.{Decoded}
 use Rattle.decoder.specs.Whole.{decoded, answerOf, Decodes}
 use Rattle.decoder.proofs.Answering.{answer-says, answer-is, answers-too-long, answers-asked, stops-so, OneOf, stops-with}
-use Rattle.demands.proofs.Lines.{Line}
+use Rattle.demands.proofs.Lines.{Line, line}
 
 module _ (context : Context) (s text errors : List ℕ) (r : Decoded) (text′ errors′ : List ℕ) (d : Decodes context s text errors r text′ errors′) where
   -- The rooms that are asked for.
@@ -84,28 +84,23 @@ module _ (context : Context) (s text errors : List ℕ) (r : Decoded) (text′ e
       short : length s ≤ 65536 → For answer
       short h = ⊎-elim (λ k. asked h (inl k)) (errors-room h) (below? (length text) (length s + 64))
 
-  -- A line, by the answer's definition.
-  line : (n : ℕ) (when then : Type 0) → (when → answer ≡ n) → (answer ≡ n → when) → (answer ≡ n → then) → Line (r .answer) n when then
-  line n when then forth back so = record {
-    only = λ e. back (sym (answer-is context s text errors d) ∙ e);
-    given = λ w. answer-is context s text errors d ∙ forth w;
-    so = λ w. so (forth w);
-  }
+  is : r .answer ≡ answer
+  is = answer-is context s text errors d
 
   -- A line of a source that stops.
   stop-line : (n : ℕ) (then : Type 0) → (n ≡ too-long → ⊥) → (n ≡ room-asked → ⊥) → (answer ≡ n → then) → Line (r .answer) n (Stops n) then
   stop-line n then x y so =
-      line n (Stops n) then (λ w. stops-so context s text errors (w .0) (w .1 .0) (w .1 .1) ∙ w .2)
+      line answer n (Stops n) then is (λ w. stops-so context s text errors (w .0) (w .1 .0) (w .1 .1) ∙ w .2)
       (λ e. subst Stops e (answered-for .2 (λ k. x (sym e ∙ k)) (λ k. y (sym e ∙ k)))) so
 
   pub line-3 : Line (r .answer) too-long (65536 < length s) (Refused too-long 0 0)
   unfolding numbers
-  line-3 = line too-long _ _ (answers-too-long context s text errors) (answered-for .0) (λ e. answer-says context s text errors 3 e d)
+  line-3 = line answer too-long _ _ is (answers-too-long context s text errors) (answered-for .0) (λ e. answer-says context s text errors 3 e d)
 
   pub line-9 : Line (r .answer) room-asked ((length s ≤ 65536) × NoRoom) (Refused room-asked (length s + 64) 0)
   unfolding numbers
   line-9 =
-      line room-asked _ _ (λ w. answers-asked context s text errors (w .0) (w .1)) (answered-for .1)
+      line answer room-asked _ _ is (λ w. answers-asked context s text errors (w .0) (w .1)) (answered-for .1)
       (λ e. answer-says context s text errors 9 e d)
 
   pub line-1 : Line (r .answer) ill-formed (Stops ill-formed) (Refused ill-formed 0 (stopOf context s .place))
@@ -121,3 +116,12 @@ module _ (context : Context) (s text errors : List ℕ) (r : Decoded) (text′ e
 
   pub line-7 : Line (r .answer) context-end (Stops context-end) (Read context-end (stopOf context s .place))
   line-7 = stop-line context-end _ (λ e. omega arith) (λ e. omega arith) (λ e. answer-says context s text errors 7 e d)
+
+  -- No other answer is given.
+  pub no-other : (r .answer ≡ too-long) ⊎ ((r .answer ≡ room-asked) ⊎ OneOf (r .answer))
+  no-other =
+      rw is
+      (⊎-elim (λ h. inl (answers-too-long context s text errors h)) (λ short. ⊎-elim (λ h. inr (inl (answers-asked context s text errors short (inl h))))
+      (λ h. ⊎-elim (λ k. inr (inl (answers-asked context s text errors short (inr k))))
+      (λ k. inr (inr (rw (stops-so context s text errors short h k) (stops-with context s))))
+      (below? (length errors) (2 * length s + 8))) (below? (length text) (length s + 64))) (below? 65536 (length s)))

@@ -1,15 +1,17 @@
 -- Document 01, 'Escape' (`write_escaped` of serialize/mod.rs), by WHATWG HTML, 13.3, 'escaping a string'.
 use Prim.Native.Nat.{ℕ, zero, suc, _-_}
 use Prim.Native.Char.{code}
+use mathlib.Core.Path.{_≡_}
 use mathlib.Core.List.{List, [], _∷_, _++_}
 use mathlib.Core.Bool.{Bool, true, false, _&&_}
 use lib.Dec.{ltb, eqb}
 use lib.ListN.{length, take}
+use lib.Seq.{sets}
 use Rattle.standard.specs.declared.characters.CharRead.{CharRead}
 use Rattle.standard.specs.declared.characters.CharRead.the-variants.{Char, Incomplete, Illformed, End}
 use Rattle.standard.specs.Notation.{if_then_else_}
 use Rattle.standard.specs.Utf8.{readChar, bytes}
-use Rattle.standard.specs.Answers.{done, ill-formed, too-long, room-asked}
+use Rattle.standard.specs.Answers.{done, ill-formed, too-long, room-asked, longest-slice}
 use Rattle.standard.specs.Reading.{sizeOf, Stop, stopFrom}
 use Rattle.escaper.specs.declared.Mode.{Mode}
 use Rattle.escaper.specs.declared.Mode.the-variants.{Text, Attribute}
@@ -55,7 +57,7 @@ stopOf s = stopFrom (λ c. done) 0 0 s
 -- The answer for an input, with room for so many bytes.
 unfoldable pub answerOf : Mode → List ℕ → (room : ℕ) → ℕ
 answerOf mode s room =
-    if ltb 65536 (length s) then too-long
+    if ltb longest-slice (length s) then too-long
     else if eqb (stopOf s .answer) ill-formed then ill-formed
     else if ltb room (length (escape mode s)) then room-asked
     else done
@@ -73,3 +75,8 @@ escapedOf mode s room =
       text = if eqb answer done then length (escape mode s) else if eqb answer room-asked then length (escape mode s) else 0;
       place = if eqb answer ill-formed then stopOf s .place else 0;
     }
+
+-- What a call gives for an input and a room: its result, and what the room then holds.
+pub record Escapes (mode : Mode) (input out : List ℕ) (r : Escaped) (out′ : List ℕ) : Type 0 where
+  pub answered : r ≡ escapedOf mode input (length out)
+  pub texts : out′ ≡ sets out 0 (writtenOf mode input (length out))

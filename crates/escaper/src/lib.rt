@@ -1,8 +1,5 @@
-// Escaping: text or an attribute value to bytes that read back as it. `write_escaped` of serialize/mod.rs.
-ghost use mathlib.Core.Path.{_≡_};
-ghost use lib.ListN.{length};
-ghost use lib.Seq.{sets};
-ghost use Rattle.escaper.specs.Escape.{escapedOf, writtenOf};
+// Escaping: text or an attribute value with its special characters replaced. `write_escaped` of serialize/mod.rs.
+ghost use Rattle.escaper.specs.Escape.{Escapes};
 
 mod faults;
 mod results;
@@ -24,8 +21,7 @@ pub struct Escaped {
 
 // Escapes all of `input` into `out`, or refuses it and writes nothing.
 pub fn escape(mode: Mode, input: &[u8], out: &mut [u8]) -> Escaped
-    ensures { λ r. ⌜ (r ≡ escapedOf mode (now (input .entry)) (length (now (out .entry))))
-        × (now (out .exit) ≡ sets (now (out .entry)) 0 (writtenOf mode (now (input .entry)) (length (now (out .entry))))) ⌝ }
+    ensures { λ r. ⌜ Escapes mode (now (input .entry)) (now (out .entry)) r (now (out .exit)) ⌝ }
 {
     if 65536 < input.len() {
         return Escaped {

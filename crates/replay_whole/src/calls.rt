@@ -131,7 +131,7 @@ fn make_source(source: &mut [u8], own: &[u8]) {
 }
 
 // A record's call, with just the rooms that its head asks for.
-pub fn replay_record(
+pub(crate) fn replay_record(
     head: Head,
     own: &[u8],
     source: &mut [u8],

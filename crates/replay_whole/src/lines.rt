@@ -3,12 +3,12 @@ use crate::numbers::sum;
 use libc::STDOUT_FILENO;
 
 // The length of the buffer.
-pub const SIZE: usize = 4096;
+pub(crate) const SIZE: usize = 4096;
 
 pub type Lines = [u8; SIZE];
 
 // Writes out what stands before a place.
-pub fn flush(lines: &Lines, at: usize) {
+pub(crate) fn flush(lines: &Lines, at: usize) {
     let whole: &[u8] = lines;
     if at <= whole.len() {
         io::write_all(STDOUT_FILENO, &whole[0..at]);
@@ -16,7 +16,7 @@ pub fn flush(lines: &Lines, at: usize) {
 }
 
 // A byte; a full buffer is written out before it.
-pub fn put_byte(lines: &mut Lines, at: usize, byte: u8) -> usize {
+pub(crate) fn put_byte(lines: &mut Lines, at: usize, byte: u8) -> usize {
     if at < SIZE {
         lines[at] = byte;
         return at + 1;
@@ -37,14 +37,14 @@ fn put_bytes(lines: &mut Lines, at: usize, bytes: &[u8]) -> usize {
 }
 
 // A number in decimal.
-pub fn put_number(lines: &mut Lines, at: usize, number: usize) -> usize {
+pub(crate) fn put_number(lines: &mut Lines, at: usize, number: usize) -> usize {
     let mut digits = [0u8; 20];
     let count = io::decimal(number as u64, &mut digits);
     put_bytes(lines, at, &digits[..count])
 }
 
 // A space, and a number.
-pub fn put_next(lines: &mut Lines, at: usize, number: u32) -> usize {
+pub(crate) fn put_next(lines: &mut Lines, at: usize, number: u32) -> usize {
     let start = put_byte(lines, at, b' ');
     put_number(lines, start, number as usize)
 }
@@ -74,7 +74,7 @@ fn put_sum(lines: &mut Lines, at: usize, bytes: &[u8]) -> usize {
 }
 
 // Written text: `-` for none, in hexadecimal, or by LENGTH:SUM if it is long.
-pub fn put_text(lines: &mut Lines, at: usize, text: &[u8]) -> usize {
+pub(crate) fn put_text(lines: &mut Lines, at: usize, text: &[u8]) -> usize {
     if text.len() == 0 {
         return put_byte(lines, at, b'-');
     }
@@ -92,7 +92,7 @@ fn put_error(lines: &mut Lines, at: usize, code: u32, place: u32) -> usize {
 }
 
 // Written errors, two numbers each.
-pub fn put_errors(lines: &mut Lines, at: usize, numbers: &[u32]) -> usize {
+pub(crate) fn put_errors(lines: &mut Lines, at: usize, numbers: &[u32]) -> usize {
     let mut end = at;
     let mut i: usize = 1;
     while i < numbers.len() {
@@ -103,7 +103,7 @@ pub fn put_errors(lines: &mut Lines, at: usize, numbers: &[u32]) -> usize {
 }
 
 // The end of a line, which tells of a call that touched what it had to leave.
-pub fn end_line(lines: &mut Lines, at: usize, untouched: bool) -> usize {
+pub(crate) fn end_line(lines: &mut Lines, at: usize, untouched: bool) -> usize {
     if untouched {
         return put_byte(lines, at, b'\n');
     }

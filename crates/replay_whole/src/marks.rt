@@ -3,7 +3,7 @@ const BYTE: u8 = 0xEE;
 
 const NUMBER: u32 = 0xEEEEEEEE;
 
-pub fn mark_bytes(room: &mut [u8]) {
+pub(crate) fn mark_bytes(room: &mut [u8]) {
     let mut at: usize = 0;
     while at < room.len() {
         room[at] = BYTE;
@@ -11,7 +11,7 @@ pub fn mark_bytes(room: &mut [u8]) {
     }
 }
 
-pub fn mark_numbers(room: &mut [u32]) {
+pub(crate) fn mark_numbers(room: &mut [u32]) {
     let mut at: usize = 0;
     while at < room.len() {
         room[at] = NUMBER;
@@ -20,7 +20,7 @@ pub fn mark_numbers(room: &mut [u32]) {
 }
 
 // Whether every byte from `from` on has the mark.
-pub fn bytes_marked(room: &[u8], from: usize) -> bool {
+pub(crate) fn bytes_marked(room: &[u8], from: usize) -> bool {
     let mut at = from;
     while at < room.len() {
         if room[at] != BYTE {
@@ -32,7 +32,7 @@ pub fn bytes_marked(room: &[u8], from: usize) -> bool {
 }
 
 // Whether every number from `from` on has the mark.
-pub fn numbers_marked(room: &[u32], from: usize) -> bool {
+pub(crate) fn numbers_marked(room: &[u32], from: usize) -> bool {
     let mut at = from;
     while at < room.len() {
         if room[at] != NUMBER {

@@ -10,7 +10,7 @@ fn wide(byte: u8) -> usize
 }
 
 // The number of two bytes, the lower first.
-pub fn short_at(s: &[u8], at: usize) -> usize
+pub(crate) fn short_at(s: &[u8], at: usize) -> usize
     requires { ⌜ at + 2 ≤ length (now s) ⌝ }
     ensures { λ r. ⌜ r < 65536 ⌝ }
 {
@@ -18,7 +18,7 @@ pub fn short_at(s: &[u8], at: usize) -> usize
 }
 
 // The number of four bytes, the lower first.
-pub fn number_at(s: &[u8], at: usize) -> usize
+pub(crate) fn number_at(s: &[u8], at: usize) -> usize
     requires { ⌜ at + 4 ≤ length (now s) ⌝ }
     ensures { λ r. ⌜ r < 4294967296 ⌝ }
 {
@@ -26,7 +26,7 @@ pub fn number_at(s: &[u8], at: usize) -> usize
 }
 
 // The sum of bytes.
-pub fn sum(bytes: &[u8]) -> usize {
+pub(crate) fn sum(bytes: &[u8]) -> usize {
     let mut total: usize = 0;
     let mut i: usize = 0;
     while i < bytes.len() {

@@ -5,10 +5,10 @@ use crate::numbers::number_at;
 use crate::numbers::short_at;
 
 // The length of a head.
-pub const HEAD: usize = 15;
+pub(crate) const HEAD: usize = 15;
 
 // What is called, the rooms that it is lent, how many bytes of its source follow the head, and how many it has with those that fill it up.
-pub struct Head {
+pub(crate) struct Head {
     pub kind: u8,
     pub text: usize,
     pub errors: usize,
@@ -16,7 +16,7 @@ pub struct Head {
     pub size: usize,
 }
 
-pub fn read_head(s: &[u8]) -> Head
+pub(crate) fn read_head(s: &[u8]) -> Head
     requires { ⌜ 15 ≤ length (now s) ⌝ }
 {
     let fill = number_at(s, 9);

@@ -44,3 +44,7 @@ room-asked = 9
 -- Rows are not in threes, or errors not in pairs.
 abbrev pub not-whole : ℕ
 not-whole = 10
+
+-- The longest chunk, source or escaper's input.
+abbrev pub longest-slice : ℕ
+longest-slice = 65536

@@ -78,12 +78,16 @@ charRefText r = encodes (take (r .«num_chars») (r .chars))
 unfoldable pub unknownName : List ℕ → Bool
 unknownName s = nextIs alphanumeric s && next (code ";") (drop (length (front alphanumeric s)) s)
 
+-- A name without `;` is no reference before s: in an attribute, `=` or an ASCII letter or digit is next.
+abbrev pub staysText : Context → List ℕ → Bool
+staysText context s = inAttribute context && nextIs (λ c. eqb c (code "=") || alphanumeric c) s
+
 -- After `&`, with the longest name that stands there.
 unfoldable pub namedBy : Context → Found → List ℕ → Piece
 namedBy context found s =
     if eqb (found .len) 0 then ampersand (if unknownName s then unknown-named-character-reference else no-error)
     else if eqb (getD s (found .len - 1) 0) (code ";") then piece (suc (found .len)) (charRefText (found .reference)) []
-    else if inAttribute context && nextIs (λ c. eqb c (code "=") || alphanumeric c) (drop (found .len) s) then ampersand no-error
+    else if staysText context (drop (found .len) s) then ampersand no-error
     else piece (suc (found .len)) (charRefText (found .reference)) (missing-semicolon-after-character-reference ∷ [])
 
 -- After `&`.

@@ -16,7 +16,7 @@ returns : tie.Need-returns
 returns c =
     let a = c .before .before .before .args in
     let w = answer-long (a .mode) (a .input .now) (length (a .out .now)) (c .if1 .taken) in
-    (w .0, ap (sets (a .out .now) 0) (w .1))
+    record { answered = w .0; texts = ap (sets (a .out .now) 0) (w .1) }
 
 find-fault-requires : tie.Need-find-fault-requires
 find-fault-requires c κs = search needs
@@ -29,7 +29,7 @@ returns-2 c =
     let a = c .before .before .before .before .before .before .before .args in
     let f = c .before .before .before .find-fault .ensures in
     let w = answer-fault (a .mode) (a .input .now) (length (a .out .now)) (omega arith) (sym (f .0) ∙ c .before .if2 .taken) in
-    (rw (f .1) (w .0), ap (sets (a .out .now) 0) (w .1))
+    record { answered = rw (f .1) (w .0); texts = ap (sets (a .out .now) 0) (w .1) }
 
 -- Past the second test the input has no fault.
 faultless : (c : tie.Else2) → stopOf (c .before .before .before .before .before .before .args .input .now) .answer ≡ ill-formed → ⊥
@@ -49,7 +49,7 @@ returns-3 c =
     let a = c .before .before .before .before .before .before .before .before .args in
     let n = c .before .escaped-length .ensures in
     let w = answer-room (a .mode) (a .input .now) (length (a .out .now)) (omega arith) (faultless (c .before .before)) (omega arith) in
-    (rw n (w .0), ap (sets (a .out .now) 0) (w .1))
+    record { answered = rw n (w .0); texts = ap (sets (a .out .now) 0) (w .1) }
 
 write-escaped-requires : tie.Need-write-escaped-requires
 write-escaped-requires c κs =
@@ -72,7 +72,7 @@ returns-4 c =
     let p = c .before .before .write-escaped .ensures in
     let f = faultless (c .before .before .before .before .before .before) in
     let w = answer-done (a .mode) (a .input .now) (length (a .out .now)) (omega arith) f (omega arith) in
-    (rw (p .next-is, zero-add) (w .0), p .new-is ∙ ap (sets (a .out .now) 0) (w .1))
+    record { answered = rw (p .next-is, zero-add) (w .0); texts = p .new-is ∙ ap (sets (a .out .now) 0) (w .1) }
 
 pub escape-spec : {M : Type 1} → statement M
 escape-spec =
