@@ -394,8 +394,8 @@ def escape_record(mode, head, fill=0):
 # ---------------------------------------------------------------------------------------------- cases: short sources for both contexts
 
 FAULTS = [bytes.fromhex(digits) for digits in (
-    "C080", "C1BF", "C2", "C241", "E08080", "E09F80", "E0A0", "E228A1", "E282", "EDA080", "ED9FBF", "EFBF", "F0808080", "F08F", "F09080",
-    "F09F92", "F4908080", "F48FBFBF", "F5", "FF", "80", "BF",
+    "C080", "C1BF", "C2", "C241", "E08080", "E09F80", "E0A0", "E2", "E228A1", "E282", "EDA080", "ED9FBF", "EFBF", "F0", "F0808080", "F08F",
+    "F09080", "F09F", "F09F41", "F09F92", "F09F9241", "F4908080", "F48FBFBF", "F5", "FF", "80", "BF",
 )]
 FAULT_SURROUNDINGS = ((b"", b""), (b"", b"text"), (b"text", b""), (b"&", b""), (b"", b"<"), (b'<"', b""))
 
@@ -613,7 +613,7 @@ def all_records():
 def main():
     """Check the model, then write DIR/stdin and DIR/stdout."""
     if len(sys.argv) != 2:
-        sys.exit("usage: python3 replay_whole.py DIR")
+        sys.exit("usage: python3 tests/replay_whole.py crates/replay_whole")
     check_names()
     check_examples()
     records = list(dict.fromkeys(all_records()))

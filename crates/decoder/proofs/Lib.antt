@@ -6,3 +6,10 @@ pub mod Quiet
 pub mod Stopping
 pub mod Walk
 pub mod Answering
+pub mod Tidy
+pub mod Looks
+pub mod Unfolding
+pub mod Means
+pub mod Held
+pub mod Simulates
+pub mod MachineReads

@@ -1,3 +1,4 @@
 pub mod Runs
 pub mod Pieces
 pub mod Whole
+pub mod Machine
