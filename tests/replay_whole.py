@@ -354,12 +354,12 @@ class Record(NamedTuple):
         return self.head + b"x" * self.fill
 
     def packed(self):
-        """The record as it stands in DIR/stdin."""
+        """The record as it stands in stdin."""
         assert self.text_room <= MOST_TEXT_ROOM and self.error_room <= MOST_ERROR_ROOM and len(self.source) <= MOST_CASE_BYTES
         return struct.pack("<cIIIH", self.kind.encode(), self.text_room, self.error_room, self.fill, len(self.head)) + self.head
 
     def line(self):
-        """The record's line in DIR/stdout."""
+        """The record's line in stdout."""
         if self.kind in CONTEXTS:
             decoded = decode_whole(self.kind, self.source, self.text_room, self.error_room)
             fields = f"{decoded.answer} {decoded.text_bytes} {len(decoded.errors)} {decoded.place} {written(decoded.text)}"
@@ -611,7 +611,7 @@ def all_records():
 
 
 def main():
-    """Check the model, then write DIR/stdin and DIR/stdout."""
+    """Check the model, then write stdin and stdout."""
     if len(sys.argv) != 2:
         sys.exit("usage: python3 tests/replay_whole.py crates/replay_whole")
     check_names()
@@ -620,6 +620,7 @@ def main():
     folder = Path(sys.argv[1])
     folder.mkdir(parents=True, exist_ok=True)
     calls = b"".join(record.packed() for record in records)
+    assert len(calls) <= MOST_TEXT_ROOM, "the program reads no more than that"
     lines = "".join(record.line() + "\n" for record in records).encode()
     (folder / "stdin").write_bytes(calls)
     (folder / "stdout").write_bytes(lines)
