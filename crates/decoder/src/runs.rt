@@ -1,4 +1,5 @@
-// Runs: stretches of bytes that need no look at each character. They are tested in blocks of 32.
+// Runs: stretches of bytes that need no look at each character. They are tested in blocks: a test this small is done many bytes at a time only
+// if its loop is long enough not to be unrolled first, so the smaller of the two has the longer block.
 ghost use mathlib.Core.Path.{_≡_};
 ghost use Prim.Native.Nat.{_≤_, _<_, _+_, _-_};
 ghost use lib.ListN.{length, take, drop};
@@ -29,6 +30,7 @@ fn plain_block(s: &[u8], at: usize) -> bool
     odd == 0
 }
 
+// The place of the first byte from `from` on that is not plain, byte by byte.
 fn plain_bytes(s: &[u8], from: usize) -> usize
     requires { ⌜ from ≤ length (now s) ⌝ }
     ensures { λ r. ⌜ r ≡ from + length (front spec.plain (drop from (now (s .entry)))) ⌝ }
@@ -43,7 +45,7 @@ fn plain_bytes(s: &[u8], from: usize) -> usize
     at
 }
 
-// The place of the first byte from `from` on that isn't plain.
+// The same, in blocks as long as they are plain.
 pub(crate) fn plain_run(s: &[u8], from: usize) -> usize
     requires { ⌜ from ≤ length (now s) ⌝ }
     ensures { λ r. ⌜ r ≡ from + length (front spec.plain (drop from (now (s .entry)))) ⌝ }
@@ -75,13 +77,14 @@ fn ordinary(b: u8, end: u8) -> bool
     (0x1 <= b) & (b <= 0x7F) & (b != end)
 }
 
+// Whether the 64 bytes from at on are ordinary.
 fn ordinary_block(s: &[u8], at: usize, end: u8) -> bool
-    requires { ⌜ at + 32 ≤ length (now s) ⌝ }
-    ensures { λ r. ⌜ r ≡ every (spec.ordinary end) (take 32 (drop at (now (s .entry)))) ⌝ }
+    requires { ⌜ at + 64 ≤ length (now s) ⌝ }
+    ensures { λ r. ⌜ r ≡ every (spec.ordinary end) (take 64 (drop at (now (s .entry)))) ⌝ }
 {
     let mut odd: u8 = 0;
     let mut i: usize = 0;
-    while i < 32 {
+    while i < 64 {
         if !ordinary(s[at + i], end) {
             odd += 1;
         }
@@ -90,6 +93,7 @@ fn ordinary_block(s: &[u8], at: usize, end: u8) -> bool
     odd == 0
 }
 
+// The place of the first byte from `from` on that is not ordinary, byte by byte.
 fn ordinary_bytes(s: &[u8], from: usize, end: u8) -> usize
     requires { ⌜ from ≤ length (now s) ⌝ }
     ensures { λ r. ⌜ r ≡ from + length (front (spec.ordinary end) (drop from (now (s .entry)))) ⌝ }
@@ -104,18 +108,18 @@ fn ordinary_bytes(s: &[u8], from: usize, end: u8) -> usize
     at
 }
 
-// The place of the first byte from `from` on that isn't ordinary.
+// The same, in blocks as long as they are ordinary.
 pub(crate) fn ordinary_run(s: &[u8], from: usize, context: Context) -> usize
     requires { ⌜ from ≤ length (now s) ⌝ }
     ensures { λ r. ⌜ r ≡ from + length (front (spec.ordinary (spec.endOf context)) (drop from (now (s .entry)))) ⌝ }
 {
     let end = end_of(context);
     let mut at = from;
-    while 32 <= s.len() - at {
+    while 64 <= s.len() - at {
         if !ordinary_block(s, at, end) {
             return ordinary_bytes(s, at, end);
         }
-        at += 32;
+        at += 64;
     }
     ordinary_bytes(s, at, end)
 }

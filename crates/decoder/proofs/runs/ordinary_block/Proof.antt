@@ -10,10 +10,10 @@ use Rattle.decoder.proofs.runs.ordinary_block.Statement.{statement}
 use Rattle.decoder.proofs.runs.ordinary_block.Tie as tie
 
 abbrev Inv-loop : tie.InvT-loop
-Inv-loop s at end odd₀ i₀ odd i = Counted (spec.ordinary end) s at i odd × (i ≤ 32)
+Inv-loop s at end odd₀ i₀ odd i = Counted (spec.ordinary end) s at i odd × (i ≤ 64)
 
 abbrev μ-loop : tie.MeasureT-loop
-μ-loop s at end odd₀ i₀ odd i = 32 - i
+μ-loop s at end odd₀ i₀ odd i = 64 - i
 
 loop-holds : tie.Need-loop-holds Inv-loop μ-loop
 loop-holds c = (counted-none, omega arith)
@@ -47,7 +47,7 @@ loop-again c =
 returns : tie.Need-returns Inv-loop μ-loop
 returns c =
     let l = c .before .loop in
-    let e : l .i ≡ 32 = omega arith in
+    let e : l .i ≡ 64 = omega arith in
     rw e at (l .inv .0 .so-far)
 
 pub ordinary-block-spec : {M : Type 1} → statement M

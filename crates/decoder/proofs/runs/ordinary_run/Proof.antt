@@ -45,7 +45,7 @@ loop-less c = omega arith
 loop-again : tie.Need-loop-again Inv-loop μ-loop
 loop-again c =
     let e = sym (c .before .ordinary-block .ensures) ∙ not-false _ (c .if1 .left) in
-    skipping-on (omega arith) (c .before .before .before .loop .inv) (passed-block 32 (omega arith) e)
+    skipping-on (omega arith) (c .before .before .before .loop .inv) (passed-block 64 (omega arith) e)
 
 ordinary-bytes-requires-2 : tie.Need-ordinary-bytes-requires-2 Inv-loop μ-loop
 ordinary-bytes-requires-2 c κs = omega arith
