@@ -96,7 +96,8 @@ settle context q found held p c own =
 unfoldable pub stepNamed : List Name → Context → ℕ → List ℕ → (p c : ℕ) (own : List ℕ) → Step
 stepNamed names context q held p c own =
     if begins names (held ++ own)
-    then (if eqb c (code ";") then to (finishNamed context q (longest names (held ++ own)) (held ++ own) []) Data else to nothing (Named q (held ++ own)))
+    then (if eqb c (code ";") then to (finishNamed context q (longest names (held ++ own)) (held ++ own) []) Data
+    else to nothing (Named q (held ++ own)))
     else settle context q (longest names held) held p c own
 
 -- A character c with its own bytes at place p.

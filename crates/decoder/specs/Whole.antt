@@ -26,16 +26,16 @@ abbrev pub decoded : (answer text errors place : ℕ) → Decoded
 decoded answer text errors place = record { answer = answer; text = text; errors = errors; place = place }
 
 -- The answer for a source, with rooms for so many text bytes and error numbers: 3, then 9, then why the source stops.
-unfoldable pub answerOf : Context → List ℕ → (texts codes : ℕ) → ℕ
-answerOf context s texts codes =
+unfoldable pub answerOf : Context → List ℕ → (text errors : ℕ) → ℕ
+answerOf context s text errors =
     if ltb longest-slice (length s) then too-long
-    else if ltb texts (textRoom (length s)) || ltb codes (errorRoom (length s)) then room-asked
+    else if ltb text (textRoom (length s)) || ltb errors (errorRoom (length s)) then room-asked
     else stopOf context s .answer
 
 -- What is written: the reading, where the answer is 0 or 7, and else nothing.
-unfoldable pub writtenOf : Context → List ℕ → (texts codes : ℕ) → Reading
-writtenOf context s texts codes =
-    let answer : ℕ = answerOf context s texts codes in
+unfoldable pub writtenOf : Context → List ℕ → (text errors : ℕ) → Reading
+writtenOf context s text errors =
+    let answer : ℕ = answerOf context s text errors in
     if eqb answer done || eqb answer context-end then decode builtin context (covered context s) else reading [] []
 
 -- The text bytes that are named: those asked for with 9, and else those written.
@@ -47,10 +47,10 @@ abbrev pub placeNamed : (answer : ℕ) → Stop → ℕ
 placeNamed answer stop = if eqb answer ill-formed || eqb answer nul || eqb answer context-end then stop .place else 0
 
 -- The whole answer.
-unfoldable pub decodedOf : Context → List ℕ → (texts codes : ℕ) → Decoded
-decodedOf context s texts codes =
-    let answer : ℕ = answerOf context s texts codes in
-    let written : Reading = writtenOf context s texts codes in
+unfoldable pub decodedOf : Context → List ℕ → (text errors : ℕ) → Decoded
+decodedOf context s text errors =
+    let answer : ℕ = answerOf context s text errors in
+    let written : Reading = writtenOf context s text errors in
     decoded answer (textNamed answer s written) (length (written .errors)) (placeNamed answer (stopOf context s))
 
 -- A result that says what was written, and the rooms that hold it.

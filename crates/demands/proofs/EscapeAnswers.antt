@@ -109,5 +109,6 @@ module _ (mode : Mode) (s out : List ℕ) (r : Escaped) (out′ : List ℕ) (d :
   pub no-other : (r .answer ≡ too-long) ⊎ ((r .answer ≡ ill-formed) ⊎ ((r .answer ≡ room-asked) ⊎ (r .answer ≡ done)))
   no-other =
       rw answer-is
-      (⊎-elim (λ h. inl (long h)) (λ short. ⊎-elim (λ h. ⊎-elim (λ k. inr (inr (inl (asked ((short, h), k))))) (λ k. inr (inr (inr (fits ((short, h), k)))))
+      (⊎-elim (λ h. inl (long h))
+      (λ short. ⊎-elim (λ h. ⊎-elim (λ k. inr (inr (inl (asked ((short, h), k))))) (λ k. inr (inr (inr (fits ((short, h), k)))))
       (below? (length out) (length (escape mode s)))) (λ h. inr (inl (faulty (short, h)))) (stops-with s)) (below? 65536 (length s)))

@@ -121,7 +121,8 @@ module _ (context : Context) (s text errors : List ℕ) (r : Decoded) (text′ e
   pub no-other : (r .answer ≡ too-long) ⊎ ((r .answer ≡ room-asked) ⊎ OneOf (r .answer))
   no-other =
       rw is
-      (⊎-elim (λ h. inl (answers-too-long context s text errors h)) (λ short. ⊎-elim (λ h. inr (inl (answers-asked context s text errors short (inl h))))
+      (⊎-elim (λ h. inl (answers-too-long context s text errors h))
+      (λ short. ⊎-elim (λ h. inr (inl (answers-asked context s text errors short (inl h))))
       (λ h. ⊎-elim (λ k. inr (inl (answers-asked context s text errors short (inr k))))
       (λ k. inr (inr (rw (stops-so context s text errors short h k) (stops-with context s))))
       (below? (length errors) (2 * length s + 8))) (below? (length text) (length s + 64))) (below? 65536 (length s)))

@@ -47,7 +47,3 @@ pub longest-some : (names : List Name) (s : List ℕ) → 0 < longest names s .l
 longest-some names s =
     longest-cases (λ (f : Found). 0 < f .len → (n : Name) × List·Memᴰ n names × (stands (n .word) s ≡ true) × (f ≡ foundAs n)) s names
     (λ h. absurd (omega arith)) (λ n i some e h. (n, i, e, refl))
-
--- Where what is found has no bytes, nothing is found.
-pub longest-none : (names : List Name) (s : List ℕ) → longest names s .len ≡ 0 → longest names s ≡ nothing
-longest-none names s = longest-cases (λ (f : Found). f .len ≡ 0 → f ≡ nothing) s names (λ h. refl) (λ n i some e h. absurd (omega arith))

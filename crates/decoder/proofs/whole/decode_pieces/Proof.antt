@@ -109,7 +109,8 @@ add-at c =
       a .pre .1,
       turn-piece (a .pre .2) (q .result)
           (turn-run (a .pre .2) (l .loop .inv) (t .before .before .before .before .before .before .plain-run .ensures)
-          (t .before .before .before .copy .ensures)) (a .pre .0) (q .ensures) more (c .before .before .before .before .before .put-piece .ensures) .there,
+          (t .before .before .before .copy .ensures)) (a .pre .0) (q .ensures) more
+          (c .before .before .before .before .before .put-piece .ensures) .there,
     )
 
 loop-less : tie.Need-loop-less Inv-loop μ-loop

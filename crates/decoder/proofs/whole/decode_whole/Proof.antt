@@ -86,7 +86,8 @@ same-length-4 c = search needs
 
 returns-5 : tie.Need-returns-5
 returns-5 c =
-    let a = c .before .before .before .before .before .before .before .before .before .before .before .before .before .before .before .before .before .args in
+    let l = c .before .before .before .before .before .before .before .before .before .before in
+    let a = l .before .before .before .before .before .before .before .args in
     whole-left (a .context) (a .source .now) (a .text .now) (a .errors .now) (omega arith) (omega arith) (omega arith) _
     (sym (c .before .before .before .before .before .before .before .before .before .before .find-stop .ensures .0)
     ∙ c .before .before .before .before .before .before .before .before .if5 .taken)
