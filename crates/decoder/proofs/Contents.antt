@@ -4,13 +4,15 @@ use mathlib.Core.Path.{_≡_, refl, _∙_, ap}
 use mathlib.Core.List.{List, [], _∷_, _++_, append-nil}
 use native.Mathlib.Omega.{arith}
 use lib.Dec.{eqb}
-use lib.ListN.{length, getD, take}
+use lib.ListN.{length, getD, take, length-append}
 use lib.Seq.{take-all}
 use Rattle.standard.specs.Utf8.{encode}
 use Rattle.standard.specs.Errors.{no-error, listed, Error, error, placed, numbers}
 use Rattle.standard.specs.Pieces.{encodes}
 use Rattle.standard.proofs.Choice.{if-both}
 use Rattle.standard.proofs.Puts.{numbers-append}
+use Rattle.decoder.specs.declared.pieces.Piece.{Piece}
+use Rattle.decoder.specs.Pieces.{pieceOf}
 
 -- The text of the first of two characters.
 pub encodes-one : (l : List ℕ) → length l ≡ 2 → encodes (take 1 l) ≡ encode (getD l 0 0)
@@ -41,3 +43,9 @@ pub listed-short : (offset code : ℕ) → length (numbers (placed offset (liste
 unfolding numbers placed
 listed-short offset code =
     if-both (λ (l : List ℕ). length (numbers (placed offset l)) ≤ 2) (eqb code no-error) _ _ (λ t. omega arith) (λ f. omega arith)
+
+-- The errors of a piece are at most four numbers.
+pub piece-few : (offset : ℕ) (p : Piece) → length (numbers (placed offset (pieceOf p .codes))) ≤ 4
+piece-few offset p =
+    rw (placed-numbers offset (listed (p .first)) (listed (p .second)))
+    (simp length-append (omega (arith, listed-short offset (p .first), listed-short offset (p .second))))

@@ -13,13 +13,14 @@ use Rattle.standard.specs.declared.names.Found.{Found}
 use Rattle.standard.specs.Notation.{if_then_else_, next, nextIs, front}
 use Rattle.standard.specs.Errors.{no-error, error, placed, absence-of-digits-in-numeric-character-reference, unknown-named-character-reference}
 use Rattle.standard.specs.Classes.{alphanumeric}
-use Rattle.standard.specs.Numbers.{digitOf, isDigit, numberFrom}
+use Rattle.standard.specs.Numbers.{digitOf, isDigit, numberFrom, Meaning}
 use Rattle.standard.specs.Names.{Name, longest, begins}
-use Rattle.standard.specs.Pieces.{piece, ampersand, digitsThen, digitsAt, numeric, charRefText, unknownName, namedBy, reference, pieceAt}
+use Rattle.standard.specs.Pieces.{piece, ampersand, numbered, digitsThen, digitsAt, numeric, charRefText, unknownName, namedBy, reference, pieceAt}
 use Rattle.standard.specs.Reading.{Reading, reading, readingAt, _⊕_}
 use Rattle.standard.proofs.Ascii.{Plain}
 use Rattle.standard.proofs.Every.{All}
-use Rattle.decoder.specs.Machine.{plain, noDigits, finishNumeric, finishNamed}
+use Rattle.standard.proofs.Stopped.{meaning-from}
+use Rattle.decoder.specs.Machine.{plain, noDigits, addDigit, finishNumeric, finishNamed}
 use Rattle.decoder.proofs.Looks.{is-x, reference-plain}
 use Rattle.decoder.proofs.Tidy.{Tidy, Alphanumerics, none-found, closed, closed-length}
 use Rattle.decoder.proofs.Unfolding.{all-append, readFrom, read-plains, read-held}
@@ -44,11 +45,14 @@ module _ (names : List Name) (context : Context) where
 
   -- A number goes on with a digit.
   pub number-more : (q base value p c : ℕ) (t : List ℕ) → isDigit base c ≡ true
-      → numMean names context q base value p (c ∷ t) ≡ numMean names context q base (value * base + digitOf c) (p + 1) t
+      → numMean names context q base value p (c ∷ t) ≡ numMean names context q base (addDigit base value c) (p + 1) t
   unfolding numMean front numberFrom
   number-more q base value p c t e =
       rw e
-      (ap₂ (λ (at : ℕ) (l : List ℕ). finishNumeric q (numberFrom base (value * base + digitOf c) ds) closed ⊕ whole at l)
+      (ap (λ (m : Meaning). readingAt q (numbered 0 m closed)
+      ⊕ whole (p + (suc (length ds) + oneIf closed)) (drop (suc (length ds) + oneIf closed) (c ∷ t)))
+      (sym (meaning-from base (value * base + digitOf c) ds))
+      ∙ ap₂ (λ (at : ℕ) (l : List ℕ). finishNumeric q (numberFrom base (addDigit base value c) ds) closed ⊕ whole at l)
       (let i : p + (suc (length ds) + oneIf closed) ≡ p + 1 + (length ds + oneIf closed) = omega arith in i)
       (ap (λ (k : ℕ). drop k (c ∷ t)) (let i : suc (length ds) + oneIf closed ≡ suc (length ds + oneIf closed) = omega arith in i)))
     where
@@ -121,7 +125,7 @@ module _ (names : List Name) (context : Context) where
   by-name s e = rw e
 
   -- Where no name is found the `&` is a piece alone.
-  by-none : (found : Found) (s : List ℕ) → found .len ≡ 0
+  pub by-none : (found : Found) (s : List ℕ) → found .len ≡ 0
       → namedBy context found s ≡ ampersand (if unknownName s then unknown-named-character-reference else no-error)
   unfolding namedBy
   by-none found s e = rw (eq-eqb (found .len) 0 e)
@@ -162,7 +166,7 @@ module _ (names : List Name) (context : Context) where
       (by-name (h ++ s) e ∙ ap (λ (f : Found). namedBy context f (h ++ s)) is ∙ near) (w .0) (omega arith)
 
   -- What a closed name makes of its bytes is its characters without an error.
-  by-closed : (found : Found) (h t : List ℕ) → found .len ≡ length (h ++ code ";" ∷ [])
+  pub by-closed : (found : Found) (h t : List ℕ) → found .len ≡ length (h ++ code ";" ∷ [])
       → namedBy context found ((h ++ code ";" ∷ []) ++ t) ≡ piece (suc (found .len)) (charRefText (found .reference)) []
   unfolding namedBy
   by-closed found h t e = rw (ne-eqb (found .len) 0 (omega (arith, long)), last)

@@ -30,7 +30,7 @@ pub data Looks : List ℕ → ℕ → ℕ → Type 0 where
   wide : {b c n : ℕ} {s : List ℕ} → 0x80 ≤ b → 0x80 ≤ c → readChar (b ∷ s) ≡ Char c (suc n) → Looks (b ∷ s) c (suc n)
 
 -- A character of ASCII is its own byte.
-own-byte : (c : ℕ) → c < 0x80 → encode c ≡ c ∷ []
+pub own-byte : (c : ℕ) → c < 0x80 → encode c ≡ c ∷ []
 unfolding encode octets
 own-byte c h = rw (lt-ltb c 0xD800 (omega arith), lt-ltb c 0x80 h)
 
@@ -91,7 +91,7 @@ pub or-ascii : (p q : ℕ → Bool) → AsciiOnly p → AsciiOnly q → AsciiOnl
 or-ascii p q f g x h = rw (f x h) (g x h)
 
 -- What passes such a test is ASCII.
-passes-ascii : (p : ℕ → Bool) → AsciiOnly p → (x : ℕ) → p x ≡ true → x < 0x80
+pub passes-ascii : (p : ℕ → Bool) → AsciiOnly p → (x : ℕ) → p x ≡ true → x < 0x80
 passes-ascii p only x e = ⊎-elim (λ h. h) (λ h. no-way (sym e ∙ only x h)) (below? x 0x80)
 
 module _ (p : ℕ → Bool) (only : AsciiOnly p) where

@@ -95,7 +95,7 @@ module _ (names : List Name) (context : Context) (tidy : Tidy names) where
       no-digits-read names context q (code "#" ∷ letter ∷ []) [] (x-plain letter (v .1))
       (hexadecimal-none names context letter [] (v .1) refl)
       ∙ ends (noDigits q (code "&" ∷ code "#" ∷ letter ∷ [])) (suc (q + 2))
-  end-ok (Numeric q base value) p v =
+  end-ok (Numeric q intro base value) p v =
       number-end names context q base value p [] refl ∙ ends (finishNumeric q value false) (p + 0)
   end-ok (Named q h) p v = end-named q h (v .1) (v .2)
   end-ok (BogusName q) p v = bogus-end names context q p [] refl refl ∙ read-nothing names context p

@@ -45,7 +45,7 @@ Valid p AfterCr = Unit {0}
 Valid p (Begin q) = p ≡ suc q
 Valid p (Octothorpe q) = p ≡ suc (suc q)
 Valid p (HexBegin q letter) = (p ≡ suc (suc (suc q))) × (is-x letter ≡ true)
-Valid p (Numeric q base value) = base ≤ 16
+Valid p (Numeric q intro base value) = base ≤ 16
 Valid p (Named q held) = (p ≡ suc (q + length held)) × Alphanumerics held × (0 < length held)
 Valid p (BogusName q) = Unit {0}
 
@@ -88,9 +88,10 @@ named-size context found s =
     Size : Piece → Type 0
     Size x = (1 ≤ x .size) × (x .size ≤ suc (found .len))
 
--- Of what is next after what is held, only the first byte matters to a name.
+-- Of what is next after what is held, only what the first byte is matters to a name.
 pub named-near : (context : Context) (found : Found) (h s t : List ℕ) → eqb (found .len) 0 ≡ false → found .len ≤ length h
-    → ((p : ℕ → Bool) → nextIs p s ≡ nextIs p t) → namedBy context found (h ++ s) ≡ namedBy context found (h ++ t)
+    → nextIs (λ c. eqb c (code "=") || alphanumeric c) s ≡ nextIs (λ c. eqb c (code "=") || alphanumeric c) t
+    → namedBy context found (h ++ s) ≡ namedBy context found (h ++ t)
 unfolding namedBy
 named-near context found h s t e fits same =
     rw (e, last s, last t, drop-append-le (found .len) h s fits, drop-append-le (found .len) h t fits, near (drop (found .len) h))
@@ -99,7 +100,7 @@ named-near context found h s t e fits same =
     last l = List·getD-append h l 0 (found .len - 1) (omega facts)
 
     near : (h : List ℕ) → nextIs (λ c. eqb c (code "=") || alphanumeric c) (h ++ s) ≡ nextIs (λ c. eqb c (code "=") || alphanumeric c) (h ++ t)
-    near [] = same (λ c. eqb c (code "=") || alphanumeric c)
+    near [] = same
     near (x ∷ h) = refl
 
 module _ (names : List Name) (context : Context) where
@@ -132,7 +133,7 @@ module _ (names : List Name) (context : Context) where
   Mean (Begin q) p s = whole q (code "&" ∷ s)
   Mean (Octothorpe q) p s = whole q (code "&" ∷ code "#" ∷ s)
   Mean (HexBegin q letter) p s = whole q (code "&" ∷ code "#" ∷ letter ∷ s)
-  Mean (Numeric q base value) p s = numMean q base value p s
+  Mean (Numeric q intro base value) p s = numMean q base value p s
   Mean (Named q held) p s = whole q (code "&" ∷ held ++ s)
   Mean (BogusName q) p s = bogusMean q p s
 

@@ -35,6 +35,7 @@ use Rattle.decoder.specs.Machine.{
   nothing,
   plain,
   noDigits,
+  addDigit,
   finishNumeric,
   finishNamed,
   stepData,
@@ -181,19 +182,19 @@ module _ (names : List Name) (context : Context) where
   at-place o s e = ap (λ (n : ℕ). o ⊕ whole n s) e
 
   -- In a number.
-  number-ok : (q base value p : ℕ) {s : List ℕ} {c n : ℕ} → base ≤ 16 → Looks s c n
-      → Ok names context p s n (numMean names context q base value p s) (step names context (Numeric q base value) p c (take n s))
+  number-ok : (q : ℕ) (intro : List ℕ) (base value p : ℕ) {s : List ℕ} {c n : ℕ} → base ≤ 16 → Looks s c n
+      → Ok names context p s n (numMean names context q base value p s) (step names context (Numeric q intro base value) p c (take n s))
   unfolding step Mean Valid
-  number-ok q base value p {s} {c} {n} few look = go (isDigit base c) (eqb c (code ";")) refl refl
+  number-ok q intro base value p {s} {c} {n} few look = go (isDigit base c) (eqb c (code ";")) refl refl
     where
       go : (t u : Bool) → isDigit base c ≡ t → eqb c (code ";") ≡ u
           → Ok names context p s n (numMean names context q base value p s)
-          (if t then to nothing (Numeric q base (value * base + digitOf c))
+          (if t then to nothing (Numeric q intro base (addDigit base value c))
           else if u then to (finishNumeric q value true) Data
           else after (finishNumeric q value false) (stepData p c (take n s)))
       go true u e f =
           looks-own (isDigit base) (digit-ascii base few)
-          (λ s n. Ok names context p s n (numMean names context q base value p s) (to nothing (Numeric q base (value * base + digitOf c)))) look e
+          (λ s n. Ok names context p s n (numMean names context q base value p s) (to nothing (Numeric q intro base (addDigit base value c)))) look e
           (λ t. record { same = number-more names context q base value p c t e; valid = few })
       go false true e f =
           looks-own (is (code ";")) (equal-ascii (code ";") (omega arith))
@@ -215,14 +216,14 @@ module _ (names : List Name) (context : Context) where
       go : (t u : Bool) → is-x c ≡ t → isDigit 10 c ≡ u
           → Ok names context p s n (whole q (code "&" ∷ code "#" ∷ s))
           (if t then to nothing (HexBegin q c)
-          else if u then to nothing (Numeric q 10 (digitOf c))
+          else if u then to nothing (Numeric q (code "&" ∷ code "#" ∷ []) 10 (digitOf c))
           else after (noDigits q (code "&" ∷ code "#" ∷ [])) (stepData p c (take n s)))
       go true u e f =
           looks-own is-x is-x-ascii (λ s n. Ok names context p s n (whole q (code "&" ∷ code "#" ∷ s)) (to nothing (HexBegin q c))) look e
           (λ t. record { same = refl; valid = (omega arith, e) })
       go false true e f =
           looks-own (isDigit 10) (digit-ascii 10 (omega arith))
-          (λ s n. Ok names context p s n (whole q (code "&" ∷ code "#" ∷ s)) (to nothing (Numeric q 10 (digitOf c)))) look f
+          (λ s n. Ok names context p s n (whole q (code "&" ∷ code "#" ∷ s)) (to nothing (Numeric q (code "&" ∷ code "#" ∷ []) 10 (digitOf c)))) look f
           (λ t. record {
             same =
                 digits-read names context q 10 2 c (code "#" ∷ c ∷ t) t (decimal-some names context c t e) refl f
@@ -244,11 +245,11 @@ module _ (names : List Name) (context : Context) where
   hexadecimal-ok q letter p {s} {c} {n} v x look = go (isDigit 16 c) refl
     where
       go : (t : Bool) → isDigit 16 c ≡ t → Ok names context p s n (whole q (code "&" ∷ code "#" ∷ letter ∷ s))
-          (if t then to nothing (Numeric q 16 (digitOf c))
+          (if t then to nothing (Numeric q (code "&" ∷ code "#" ∷ letter ∷ []) 16 (digitOf c))
           else after (noDigits q (code "&" ∷ code "#" ∷ letter ∷ [])) (stepData p c (take n s)))
       go true e =
           looks-own (isDigit 16) (digit-ascii 16 (omega arith))
-          (λ s n. Ok names context p s n (whole q (code "&" ∷ code "#" ∷ letter ∷ s)) (to nothing (Numeric q 16 (digitOf c)))) look e
+          (λ s n. Ok names context p s n (whole q (code "&" ∷ code "#" ∷ letter ∷ s)) (to nothing (Numeric q (code "&" ∷ code "#" ∷ letter ∷ []) 16 (digitOf c)))) look e
           (λ t. record {
             same =
                 digits-read names context q 16 3 c (code "#" ∷ letter ∷ c ∷ t) t (hexadecimal-some names context letter (c ∷ t) x) refl e
@@ -329,7 +330,7 @@ module _ (names : List Name) (context : Context) where
       go false e =
           before (finishNamed context q (longest names h) h (take n s))
           (found-read names context q h s (take n s) (longest names h) (plain-held h al) (no-hash (h ++ s) first) found (longest-fits names h .0)
-          (named-near context (longest names h) h s (take n s) e (longest-fits names h .0) (λ p. sym (looks-take p look)))
+          (named-near context (longest names h) h s (take n s) e (longest-fits names h .0) (sym (looks-take (λ c. eqb c (code "=") || alphanumeric c) look)))
           ∙ at-place (finishNamed context q (longest names h) h (take n s)) s (sym v))
           (data-ok p look)
 
@@ -379,6 +380,6 @@ module _ (names : List Name) (context : Context) where
   step-ok (Begin q) p tidy v look = begin-ok q p tidy v look
   step-ok (Octothorpe q) p tidy v look = octothorpe-ok q p v look
   step-ok (HexBegin q letter) p tidy v look = hexadecimal-ok q letter p (v .0) (v .1) look
-  step-ok (Numeric q base value) p tidy v look = number-ok q base value p v look
+  step-ok (Numeric q intro base value) p tidy v look = number-ok q intro base value p v look
   step-ok (Named q h) p {s} tidy v look = named-ok q p h tidy (v .0) (v .1) (next-held h s (v .1) (v .2)) look
   step-ok (BogusName q) p tidy v look = bogus-ok q p look

@@ -174,7 +174,7 @@ unfolding longest
 closed names = closed-from names nothing
 
 -- What begins some name begins a name of the list.
-begins-some : (names : List Name) (s : List ℕ) → begins names s ≡ true → (n : Name) × List·Memᴰ n names × (stands s (n .word) ≡ true)
+pub begins-some : (names : List Name) (s : List ℕ) → begins names s ≡ true → (n : Name) × List·Memᴰ n names × (stands s (n .word) ≡ true)
 unfolding begins
 begins-some [] s e = no-way (sym e)
 begins-some (n ∷ names) s e = go (stands s (n .word)) refl e (begins-some names s)
@@ -186,7 +186,7 @@ begins-some (n ∷ names) s e = go (stands s (n .word)) refl e (begins-some name
     go false f i later = let w = later i in (w .0, List·Memᴰ·tail (w .1), w .2)
 
 -- Each name of tidy names begins with a letter or digit, and is letters and digits, and then nothing or `;`.
-tidy-name : (names : List Name) {n : Name} → Tidy names → List·Memᴰ n names
+pub tidy-name : (names : List Name) {n : Name} → Tidy names → List·Memᴰ n names
     → (nextIs alphanumeric (n .word) ≡ true) × (tidyRest (n .word) ≡ true)
 tidy-name names {n} tidy i =
     and-true (nextIs alphanumeric (n .word)) (tidyRest (n .word)) (all-member (λ n. tidyWord (n .word) ≡ true) names tidy i)

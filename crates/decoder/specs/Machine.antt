@@ -1,5 +1,5 @@
 -- The machine: a covered source, character by character, with what is held as its state. The states are those of CharRefTokenizer.
-use Prim.Native.Nat.{ℕ, zero, suc, _+_, _-_, _*_}
+use Prim.Native.Nat.{ℕ, zero, suc, _+_, _-_, _*_, min}
 use Prim.Native.Char.{code}
 use mathlib.Core.List.{List, [], _∷_, _++_}
 use mathlib.Core.Bool.{Bool, true, false, _||_}
@@ -33,8 +33,8 @@ pub data St : Type 0 where
   Begin : (q : ℕ) → St
   Octothorpe : (q : ℕ) → St
   HexBegin : (q letter : ℕ) → St
-  -- `&#` or `&#x` and digits, of which only the number is kept.
-  Numeric : (q base value : ℕ) → St
+  -- `&#` or `&#x`, which is the intro, and digits, of which only the number is kept.
+  Numeric : (q : ℕ) (intro : List ℕ) (base value : ℕ) → St
   -- `&` and a beginning of some name that is no name with its `;`.
   Named : (q : ℕ) (held : List ℕ) → St
   -- Nothing: letters and digits after an `&` that begins no name pass, and error 4 waits for their `;`.
@@ -77,6 +77,10 @@ stepBogus q p c own =
 abbrev pub noDigits : ℕ → List ℕ → Reading
 noDigits q held = reading held (error absence-of-digits-in-numeric-character-reference q ∷ [])
 
+-- One digit more. A number stops at the first past the last code point, and means the same there.
+abbrev pub addDigit : (base value c : ℕ) → ℕ
+addDigit base value c = min (value * base + digitOf c) 0x110000
+
 -- A number, with its `;` or without.
 abbrev pub finishNumeric : (q value : ℕ) → Bool → Reading
 finishNumeric q value semicolon = readingAt q (numbered 0 (meaningOf value) semicolon)
@@ -100,25 +104,45 @@ stepNamed names context q held p c own =
     else to nothing (Named q (held ++ own)))
     else settle context q (longest names held) held p c own
 
--- A character c with its own bytes at place p.
-unfoldable pub step : List Name → Context → St → (p c : ℕ) (own : List ℕ) → Step
-step names context Data p c own = stepData p c own
-step names context AfterCr p c own = if eqb c (code "\n") then to nothing Data else stepData p c own
-step names context (Begin q) p c own =
+-- After a CR.
+abbrev pub stepAfterCr : (p c : ℕ) (own : List ℕ) → Step
+stepAfterCr p c own = if eqb c (code "\n") then to nothing Data else stepData p c own
+
+-- After `&`.
+abbrev pub stepBegin : List Name → Context → (q p c : ℕ) (own : List ℕ) → Step
+stepBegin names context q p c own =
     if eqb c (code "#") then to nothing (Octothorpe q)
     else if alphanumeric c then stepNamed names context q [] p c own
     else after (plain (code "&" ∷ [])) (stepData p c own)
-step names context (Octothorpe q) p c own =
+
+-- After `&#`.
+abbrev pub stepOctothorpe : (q p c : ℕ) (own : List ℕ) → Step
+stepOctothorpe q p c own =
     if eqb c (code "x") || eqb c (code "X") then to nothing (HexBegin q c)
-    else if isDigit 10 c then to nothing (Numeric q 10 (digitOf c))
+    else if isDigit 10 c then to nothing (Numeric q (code "&" ∷ code "#" ∷ []) 10 (digitOf c))
     else after (noDigits q (code "&" ∷ code "#" ∷ [])) (stepData p c own)
-step names context (HexBegin q letter) p c own =
-    if isDigit 16 c then to nothing (Numeric q 16 (digitOf c))
+
+-- After `&#x`.
+abbrev pub stepHexBegin : (q letter p c : ℕ) (own : List ℕ) → Step
+stepHexBegin q letter p c own =
+    if isDigit 16 c then to nothing (Numeric q (code "&" ∷ code "#" ∷ letter ∷ []) 16 (digitOf c))
     else after (noDigits q (code "&" ∷ code "#" ∷ letter ∷ [])) (stepData p c own)
-step names context (Numeric q base value) p c own =
-    if isDigit base c then to nothing (Numeric q base (value * base + digitOf c))
+
+-- In a number.
+abbrev pub stepNumeric : (q : ℕ) (intro : List ℕ) (base value p c : ℕ) (own : List ℕ) → Step
+stepNumeric q intro base value p c own =
+    if isDigit base c then to nothing (Numeric q intro base (addDigit base value c))
     else if eqb c (code ";") then to (finishNumeric q value true) Data
     else after (finishNumeric q value false) (stepData p c own)
+
+-- A character c with its own bytes at place p.
+unfoldable pub step : List Name → Context → St → (p c : ℕ) (own : List ℕ) → Step
+step names context Data p c own = stepData p c own
+step names context AfterCr p c own = stepAfterCr p c own
+step names context (Begin q) p c own = stepBegin names context q p c own
+step names context (Octothorpe q) p c own = stepOctothorpe q p c own
+step names context (HexBegin q letter) p c own = stepHexBegin q letter p c own
+step names context (Numeric q intro base value) p c own = stepNumeric q intro base value p c own
 step names context (Named q held) p c own = stepNamed names context q held p c own
 step names context (BogusName q) p c own = stepBogus q p c own
 
@@ -129,7 +153,7 @@ finish names context AfterCr = nothing
 finish names context (Begin q) = plain (code "&" ∷ [])
 finish names context (Octothorpe q) = noDigits q (code "&" ∷ code "#" ∷ [])
 finish names context (HexBegin q letter) = noDigits q (code "&" ∷ code "#" ∷ letter ∷ [])
-finish names context (Numeric q base value) = finishNumeric q value false
+finish names context (Numeric q intro base value) = finishNumeric q value false
 finish names context (Named q held) =
     if eqb (longest names held .len) 0 then plain (code "&" ∷ held) else finishNamed context q (longest names held) held []
 finish names context (BogusName q) = nothing

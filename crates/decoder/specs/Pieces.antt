@@ -13,3 +13,8 @@ pieceOf p = standard.piece (p .size) (standard.charRefText (p .reference)) (list
 abbrev pub oneOf : (size char first second : ℕ) → Piece
 oneOf size char first second =
     record { size = size; reference = record { chars = char ∷ 0 ∷ []; «num_chars» = 1 }; first = first; second = second }
+
+-- A piece that has nothing, of size bytes.
+abbrev pub noneOf : ℕ → Piece
+noneOf size =
+    record { size = size; reference = record { chars = 0 ∷ 0 ∷ []; «num_chars» = 0 }; first = 0; second = 0 }

@@ -33,13 +33,22 @@ pub(crate) fn digit_of(b: u8) -> u32
     16
 }
 
+// A number, or the first past the last code point where it is larger.
+pub(crate) fn stopped(n: u32) -> u32
+    ensures { λ r. ⌜ r ≡ min n 0x110000 ⌝ }
+{
+    if n < 0x110000 {
+        return n;
+    }
+    0x110000
+}
+
 // One digit more. The value stops at the first number past the last code point, so it never wraps.
 pub(crate) fn add_digit(value: u32, base: u32, digit: u32) -> u32
     requires { ⌜ (value ≤ 0x110000) × (base ≤ 16) × (digit ≤ 16) ⌝ }
     ensures { λ r. ⌜ r ≡ min (value * base + digit) 0x110000 ⌝ }
 {
-    let next = value * base + digit;
-    if next < 0x110000 { next } else { 0x110000 }
+    stopped(value * base + digit)
 }
 
 // Digits that were read: the place after them, and their number, or the first past the last code point where it is larger.

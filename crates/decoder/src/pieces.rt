@@ -7,7 +7,7 @@ ghost use Rattle.standard.specs.Notation.{if_then_else_, next};
 ghost use Rattle.standard.specs.Utf8.{readChar};
 ghost use Rattle.standard.specs.Names.{records, longest};
 ghost use Rattle.standard.specs.Pieces as standard;
-ghost use Rattle.decoder.specs.Pieces.{pieceOf, oneOf};
+ghost use Rattle.decoder.specs.Pieces.{pieceOf, oneOf, noneOf};
 use crate::classes::alphanumeric;
 use crate::classes::character_code;
 use crate::numbers::do_numeric;
@@ -15,6 +15,8 @@ use crate::numbers::finish_numeric;
 use standard::Context;
 use standard::characters::CharRead;
 use standard::names::CharRef;
+use standard::names::Found;
+use standard::names::longest_name;
 
 // How many source bytes a piece has, its characters, and its codes, each 0 where there is none.
 pub(crate) struct Piece {
@@ -26,7 +28,7 @@ pub(crate) struct Piece {
 
 impl Piece {
     // `finish_one`: a piece of one character.
-    fn one(size: usize, char: u32, first: u32, second: u32) -> Piece
+    pub(crate) fn one(size: usize, char: u32, first: u32, second: u32) -> Piece
         ensures { λ r. ⌜ r ≡ oneOf size char first second ⌝ }
     {
         Piece {
@@ -37,6 +39,18 @@ impl Piece {
             },
             first,
             second,
+        }
+    }
+
+    // A piece that has nothing.
+    pub(crate) fn none(size: usize) -> Piece
+        ensures { λ r. ⌜ r ≡ noneOf size ⌝ }
+    {
+        Piece {
+            size,
+            reference: CharRef::EMPTY,
+            first: 0,
+            second: 0,
         }
     }
 }
@@ -117,11 +131,11 @@ fn stays_text(context: Context, rest: &[u8], at: usize) -> bool
     alphanumeric(b)
 }
 
-// A named reference, with rest after its `&`: `do_named` and `finish_named`.
-fn named(table: &[u8], context: Context, rest: &[u8]) -> Piece
-    ensures { λ r. ⌜ pieceOf r ≡ standard.namedBy context (longest (records (now (table .entry))) (now (rest .entry))) (now (rest .entry)) ⌝ }
+// A named reference, with rest after its `&` and what was found there: `finish_named`.
+pub(crate) fn named_by(context: Context, found: Found, rest: &[u8]) -> Piece
+    requires { ⌜ found .len ≤ length (now rest) ⌝ }
+    ensures { λ r. ⌜ pieceOf r ≡ standard.namedBy context found (now (rest .entry)) ⌝ }
 {
-    let found = standard::names::longest_name(table, rest);
     let len = found.len;
     if len == 0 {
         if unknown_name(rest) {
@@ -147,6 +161,14 @@ fn named(table: &[u8], context: Context, rest: &[u8]) -> Piece
         first: 2,
         second: 0,
     }
+}
+
+// A named reference, with rest after its `&`: `do_named`.
+pub(crate) fn named(table: &[u8], context: Context, rest: &[u8]) -> Piece
+    ensures { λ r. ⌜ pieceOf r ≡ standard.namedBy context (longest (records (now (table .entry))) (now (rest .entry))) (now (rest .entry)) ⌝ }
+{
+    let found = longest_name(table, rest);
+    named_by(context, found, rest)
 }
 
 // A reference, with rest after its `&`.
@@ -175,12 +197,7 @@ fn character(rest: &[u8]) -> Piece
 {
     match standard::characters::read_char(rest) {
         CharRead::Char { value, len } => Piece::one(len, value, character_code(value), 0),
-        _ => Piece {
-            size: 1,
-            reference: CharRef::EMPTY,
-            first: 0,
-            second: 0,
-        },
+        _ => Piece::none(1),
     }
 }
 

@@ -20,7 +20,7 @@ fn wide(b: u8) -> u32
 }
 
 // The answer that a character calls for, 0 where reading goes on.
-fn calls_for(context: Context, c: u32) -> u32
+pub(crate) fn calls_for(context: Context, c: u32) -> u32
     ensures { λ r. ⌜ r ≡ callsFor context c ⌝ }
 {
     if c == 0 {

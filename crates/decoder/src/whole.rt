@@ -4,16 +4,14 @@ ghost use Prim.Native.Nat.{_≤_, _<_, _+_, _*_};
 ghost use lib.ListN.{length};
 ghost use Rattle.standard.specs.Names.{tableOf};
 ghost use Rattle.standard.specs.NameList.{builtin};
-ghost use Rattle.standard.specs.Reading.{readingAt, decode};
+ghost use Rattle.standard.specs.Reading.{decode};
 ghost use Rattle.standard.specs.Rooms.{Wrote};
-ghost use Rattle.decoder.specs.Pieces.{pieceOf};
 ghost use Rattle.decoder.specs.Whole.{textRoom, decoded, Reads, Decodes};
-use crate::pieces::Piece;
 use crate::pieces::piece_at;
 use crate::runs::plain_run;
 use crate::stops::find_stop;
-use crate::writers::put_codes;
-use crate::writers::put_reference;
+use crate::writers::Written;
+use crate::writers::put_piece;
 use standard::Context;
 use standard::table::builtin_names;
 
@@ -23,33 +21,6 @@ pub struct Decoded {
     pub text: u32,
     pub errors: u32,
     pub place: u32,
-}
-
-// The places after what was written: in the text room, and in the error room.
-struct Written {
-    text: usize,
-    errors: usize,
-}
-
-// Writes a piece that stands at place: its text at w, its errors at e.
-fn put_piece(
-    text: &mut [u8],
-    w: usize,
-    errors: &mut [u32],
-    e: usize,
-    piece: Piece,
-    place: u32,
-) -> Written
-    requires { ⌜ (w + 8 ≤ length (now text)) × (e + 4 ≤ length (now errors)) ⌝ }
-    ensures { λ r. ⌜ Wrote (readingAt place (pieceOf piece)) (now (text .entry)) w (now (text .exit)) (r .text)
-        (now (errors .entry)) e (now (errors .exit)) (r .errors) ⌝ }
-{
-    let reference = piece.reference;
-    let next = put_reference(text, w, reference);
-    Written {
-        text: next,
-        errors: put_codes(errors, e, piece.first, piece.second, place),
-    }
 }
 
 // Writes the reading of a covered source: runs of plain bytes are copied at once, and each other piece is read.

@@ -7,11 +7,14 @@ ghost use Rattle.standard.specs.Notation.{if_then_else_};
 ghost use Rattle.standard.specs.Utf8.{scalar, octets, encode};
 ghost use Rattle.standard.specs.Errors.{listed, placed, numbers};
 ghost use Rattle.standard.specs.Pieces.{charRefText};
-ghost use Rattle.standard.specs.Rooms.{Put};
+ghost use Rattle.standard.specs.Reading.{readingAt};
+ghost use Rattle.standard.specs.Rooms.{Put, Wrote};
+ghost use Rattle.decoder.specs.Pieces.{pieceOf};
+use crate::pieces::Piece;
 use standard::names::CharRef;
 
 // A number that is no scalar value is written as U+FFFD.
-fn written(c: u32) -> u32
+fn replaced(c: u32) -> u32
     ensures { λ r. ⌜ (r ≡ (if scalar c then c else 0xFFFD)) × (r < 0x110000) ⌝ }
 {
     if c < 0xD800 {
@@ -57,13 +60,13 @@ pub(crate) fn put_char(text: &mut [u8], at: usize, c: u32) -> usize
     requires { ⌜ at + 4 ≤ length (now text) ⌝ }
     ensures { λ r. ⌜ Put (now (text .entry)) at (encode c) (now (text .exit)) r ⌝ }
 {
-    put_octets(text, at, written(c))
+    put_octets(text, at, replaced(c))
 }
 
 // The text of a reference: none, one or both of its characters.
 pub(crate) fn put_reference(text: &mut [u8], at: usize, reference: CharRef) -> usize
     requires { ⌜ at + 8 ≤ length (now text) ⌝ }
-    ensures { λ r. ⌜ Put (now (text .entry)) at (charRefText reference) (now (text .exit)) r ⌝ }
+    ensures { λ r. ⌜ Put (now (text .entry)) at (charRefText reference) (now (text .exit)) r × (r ≤ at + 8) ⌝ }
 {
     let chars = reference.chars;
     if reference.num_chars == 0 {
@@ -104,4 +107,31 @@ pub(crate) fn put_codes(errors: &mut [u32], at: usize, first: u32, second: u32, 
 {
     let next = put_code(errors, at, first, place);
     put_code(errors, next, second, place)
+}
+
+// The places after what was written: in the text room, and in the error room.
+pub(crate) struct Written {
+    pub text: usize,
+    pub errors: usize,
+}
+
+// Writes a piece that stands at place: its text at w, its errors at e.
+pub(crate) fn put_piece(
+    text: &mut [u8],
+    w: usize,
+    errors: &mut [u32],
+    e: usize,
+    piece: Piece,
+    place: u32,
+) -> Written
+    requires { ⌜ (w + 8 ≤ length (now text)) × (e + 4 ≤ length (now errors)) ⌝ }
+    ensures { λ r. ⌜ Wrote (readingAt place (pieceOf piece)) (now (text .entry)) w (now (text .exit)) (r .text)
+        (now (errors .entry)) e (now (errors .exit)) (r .errors) × (r .text ≤ w + 8) × (r .errors ≤ e + 4) ⌝ }
+{
+    let reference = piece.reference;
+    let next = put_reference(text, w, reference);
+    Written {
+        text: next,
+        errors: put_codes(errors, e, piece.first, piece.second, place),
+    }
 }

@@ -7,3 +7,5 @@ pub mod WholeAnswers
 pub mod EscapeAnswers
 pub mod EscapeEdges
 pub mod Unique
+pub mod Held
+pub mod Cutting

@@ -8,6 +8,12 @@ use denote.Triple.Clauses.{AtExit}
 use borrow.Fn.Kinds.{PK, RK, Dens, resT, endedOf, Out}
 use Rattle.decoder.proofs.decode_whole.Kinds as decode-whole-kinds
 use Rattle.decoder.proofs.decode_whole.Reads as decode-whole-reads
+use Rattle.decoder.proofs.stream.Stream.new.Kinds as new-kinds
+use Rattle.decoder.proofs.stream.Stream.new.Reads as new-reads
+use Rattle.decoder.proofs.stream.Stream.feed.Kinds as feed-kinds
+use Rattle.decoder.proofs.stream.Stream.feed.Reads as feed-reads
+use Rattle.decoder.proofs.stream.Stream.end.Kinds as end-kinds
+use Rattle.decoder.proofs.stream.Stream.end.Reads as end-reads
 use Rattle.escaper.proofs.escape.Kinds as escape-kinds
 use Rattle.escaper.proofs.escape.Reads as escape-reads
 use Rattle.rooms.proofs.copy.Kinds as copy-kinds
@@ -42,6 +48,9 @@ begins-name κs a x y e f p q = only p q
 pub builtin-names : Fixes 0 builtin-names-kinds.ps builtin-names-kinds.r builtin-names-reads.Post
 builtin-names κs a x y e f p q = only p q
 
+pub new-stream : Fixes 0 new-kinds.ps new-kinds.r new-reads.Post
+new-stream κs a x y e f p q = only p q
+
 -- An `ensures` of a function with lent buffers leaves one result and, of each buffer, one content: lent picks them out of the parameters at exit.
 abbrev pub FixesLent : (n : ℕ) (ps : List (PK n)) (r : RK n) (B : Type 0) → ((κs : Lfts n) → AtExit (endedOf n ps r) κs → B) → Out n ps r → Type 0
 FixesLent n ps r B lent ensures =
@@ -56,6 +65,19 @@ copy κs a x y e f p q = (only (p .next-is) (q .next-is), only (p .new-is) (q .n
 pub decode-whole : FixesLent 3 decode-whole-kinds.ps decode-whole-kinds.r (List ℕ × List ℕ)
     (λ κs e. (e .1 .1 .0 .now, e .1 .1 .1 .0 .now)) decode-whole-reads.Post
 decode-whole κs a x y e f p q = (
+  only (p .answered) (q .answered),
+  λ i. (only (p .texts) (q .texts) i, only (p .numbers-of) (q .numbers-of) i),
+)
+
+-- The answer with its record, the text room and the error room: of a chunk, and of the end.
+pub feed : FixesLent 3 feed-kinds.ps feed-kinds.r (List ℕ × List ℕ) (λ κs e. (e .1 .1 .0 .now, e .1 .1 .1 .0 .now)) feed-reads.Post
+feed κs a x y e f p q = (
+  only (p .answered) (q .answered),
+  λ i. (only (p .texts) (q .texts) i, only (p .numbers-of) (q .numbers-of) i),
+)
+
+pub end : FixesLent 2 end-kinds.ps end-kinds.r (List ℕ × List ℕ) (λ κs e. (e .1 .0 .now, e .1 .1 .0 .now)) end-reads.Post
+end κs a x y e f p q = (
   only (p .answered) (q .answered),
   λ i. (only (p .texts) (q .texts) i, only (p .numbers-of) (q .numbers-of) i),
 )

@@ -30,3 +30,9 @@ pub meaning-stopped : (n : ℕ) → meaningOf (min n 0x110000) ≡ meaningOf n
 meaning-stopped n =
     ⊎-elim (λ (h : n < 0x110000). ap meaningOf (omega arith))
     (λ (h : 0x110000 ≤ n). meaning-outside (min n 0x110000) (omega arith) ∙ sym (meaning-outside n (omega arith))) (below? n 0x110000)
+
+-- So does a number whose digits go on after it stopped.
+pub meaning-from : (base v : ℕ) (s : List ℕ) → meaningOf (numberFrom base (min v 0x110000) s) ≡ meaningOf (numberFrom base v s)
+meaning-from base v s =
+    sym (meaning-stopped (numberFrom base (min v 0x110000) s)) ∙ ap meaningOf (number-stopped base v s)
+    ∙ meaning-stopped (numberFrom base v s)

@@ -48,3 +48,7 @@ not-whole = 10
 -- The longest chunk, source or escaper's input.
 abbrev pub longest-slice : ℕ
 longest-slice = 65536
+
+-- The longest stream.
+abbrev pub longest-stream : ℕ
+longest-stream = 16777216

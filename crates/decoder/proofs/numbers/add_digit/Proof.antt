@@ -1,20 +1,21 @@
 -- add_digit stops at 0x110000: the product of two bounded numbers is bounded.
 use native.Mathlib.Nat.{mul-le-mul}
 use native.Mathlib.Omega.{arith}
+use borrow.Author.Needs.{needs}
 use Rattle.decoder.proofs.numbers.add_digit.Statement.{statement}
 use Rattle.decoder.proofs.numbers.add_digit.Tie as tie
 
-mul-next : tie.Need-mul-next
-mul-next c = omega (arith, mul-le-mul (c .pre .0) (c .pre .1))
+mul-stopped : tie.Need-mul-stopped
+mul-stopped c = omega (arith, mul-le-mul (c .pre .0) (c .pre .1))
 
-add-next : tie.Need-add-next
-add-next c = omega (arith, mul-le-mul (c .pre .0) (c .pre .1))
+add-stopped : tie.Need-add-stopped
+add-stopped c = omega (arith, mul-le-mul (c .pre .0) (c .pre .1))
+
+stopped-requires : tie.Need-stopped-requires
+stopped-requires c κs = search needs
 
 returns : tie.Need-returns
-returns c = omega arith
-
-returns-2 : tie.Need-returns-2
-returns-2 c = omega arith
+returns c = search needs
 
 pub add-digit-spec : {M : Type 1} → statement M
-add-digit-spec = tie.close (tie.spec mul-next add-next returns returns-2)
+add-digit-spec = tie.close (tie.spec mul-stopped add-stopped stopped-requires returns)

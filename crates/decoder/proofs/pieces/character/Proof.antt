@@ -25,6 +25,9 @@ character-code-requires c κs = search needs
 one-requires : tie.Need-one-requires
 one-requires c κs = search needs
 
+none-requires : tie.Need-none-requires
+none-requires c κs = search needs
+
 returns : tie.Need-returns
 returns c =
     let d = c .before .before .before in
@@ -40,7 +43,10 @@ others End s k = refl
 
 returns-2 : tie.Need-returns-2
 unfolding encodes
-returns-2 c = rw (← c .before .read-char .ensures) (others (c .before .read-char .result) _ (c .match .keys2))
+returns-2 c =
+    let d = c .before in
+    rw (← d .before .read-char .ensures)
+    (ap pieceOf (c .none .ensures) ∙ others (d .before .read-char .result) _ (d .match .keys2))
 
 pub character-spec : {M : Type 1} → statement M
 character-spec =
@@ -50,5 +56,6 @@ character-spec =
     enum-known-value
     character-code-requires
     one-requires
+    none-requires
     returns
     returns-2)

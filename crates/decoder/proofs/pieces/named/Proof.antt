@@ -1,93 +1,17 @@
-use mathlib.Core.Path.{sym, _∙_, ap}
-use mathlib.Core.Bool.{true, false}
 use native.Mathlib.Omega.{arith}
 use borrow.Author.Needs.{needs}
-use Rattle.decoder.specs.Pieces.{pieceOf}
-use Rattle.decoder.proofs.NameLaws.{found-there, named-none, named-closed, named-stays, named-open}
+use Rattle.decoder.proofs.NameLaws.{found-there}
 use Rattle.decoder.proofs.pieces.named.Statement.{statement}
 use Rattle.decoder.proofs.pieces.named.Tie as tie
 
 longest-name-requires : tie.Need-longest-name-requires
 longest-name-requires c κs = search needs
 
-unknown-name-requires : tie.Need-unknown-name-requires
-unknown-name-requires c κs = search needs
-
-one-requires : tie.Need-one-requires
-one-requires c κs = search needs
+named-by-requires : tie.Need-named-by-requires
+named-by-requires c κs = omega (arith, found-there _ _ (c .longest-name .ensures))
 
 returns : tie.Need-returns
-returns c =
-    let d = c .before .before .before in
-    rw (← d .before .longest-name .ensures)
-    (ap pieceOf (c .one .ensures)
-    ∙ named-none _ _ _ true (d .if1 .taken) (sym (c .before .before .unknown-name .ensures) ∙ c .before .if2 .taken))
-
-one-requires-2 : tie.Need-one-requires-2
-one-requires-2 c κs = search needs
-
-returns-2 : tie.Need-returns-2
-returns-2 c =
-    let d = c .before .before .before in
-    rw (← d .before .longest-name .ensures)
-    (ap pieceOf (c .one2 .ensures)
-    ∙ named-none _ _ _ false (d .if1 .taken) (sym (c .before .before .unknown-name .ensures) ∙ c .before .if2 .left))
-
-sub-if3 : tie.Need-sub-if3
-sub-if3 c = search needs
-
-shared-slice-read-if3 : tie.Need-shared-slice-read-if3
-shared-slice-read-if3 c = omega (arith, found-there _ _ (c .before .before .before .longest-name .ensures))
-
-add-t12 : tie.Need-add-t12
-add-t12 c = omega (arith, found-there _ _ (c .before .before .before .before .longest-name .ensures))
-
-returns-3 : tie.Need-returns-3
-returns-3 c =
-    let d = c .before .before .before in
-    rw (← d .before .longest-name .ensures)
-    (named-closed _ _ _ (d .if1 .left) (c .if3 .taken))
-
-stays-text-requires : tie.Need-stays-text-requires
-stays-text-requires c κs = search needs
-
-one-requires-3 : tie.Need-one-requires-3
-one-requires-3 c κs = search needs
-
-returns-4 : tie.Need-returns-4
-returns-4 c =
-    let d = c .before .before .before .before .before .before in
-    rw (← d .before .longest-name .ensures)
-    (ap pieceOf (c .one3 .ensures)
-    ∙ named-stays _ _ _ (d .if1 .left) (c .before .before .before .if3 .left)
-    (sym (c .before .before .stays-text .ensures) ∙ c .before .if4 .taken))
-
-add-t9 : tie.Need-add-t9
-add-t9 c = omega (arith, found-there _ _ (c .before .before .before .before .before .before .longest-name .ensures))
-
-returns-5 : tie.Need-returns-5
-returns-5 c =
-    let d = c .before .before .before .before .before in
-    rw (← d .before .longest-name .ensures)
-    (named-open _ _ _ (d .if1 .left) (c .before .before .if3 .left)
-    (sym (c .before .stays-text .ensures) ∙ c .if4 .left))
+returns c = rw (← c .before .longest-name .ensures) (c .named-by .ensures)
 
 pub named-spec : {M : Type 1} → statement M
-named-spec =
-    tie.close
-    (tie.spec
-    longest-name-requires
-    unknown-name-requires
-    one-requires
-    returns
-    one-requires-2
-    returns-2
-    sub-if3
-    shared-slice-read-if3
-    add-t12
-    returns-3
-    stays-text-requires
-    one-requires-3
-    returns-4
-    add-t9
-    returns-5)
+named-spec = tie.close (tie.spec longest-name-requires named-by-requires returns)

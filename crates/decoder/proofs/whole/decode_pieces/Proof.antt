@@ -110,7 +110,7 @@ add-at c =
       turn-piece (a .pre .2) (q .result)
           (turn-run (a .pre .2) (l .loop .inv) (t .before .before .before .before .before .before .plain-run .ensures)
           (t .before .before .before .copy .ensures)) (a .pre .0) (q .ensures) more
-          (c .before .before .before .before .before .put-piece .ensures) .there,
+          (c .before .before .before .before .before .put-piece .ensures .0) .there,
     )
 
 loop-less : tie.Need-loop-less Inv-loop μ-loop
@@ -126,7 +126,7 @@ loop-less c =
       turn-piece (a .pre .2) (q .result)
           (turn-run (a .pre .2) (l .loop .inv) (t .before .before .before .before .before .before .plain-run .ensures)
           (t .before .before .before .copy .ensures)) (a .pre .0) (q .ensures) more
-          (c .before .before .before .before .before .put-piece .ensures) .there,
+          (c .before .before .before .before .before .put-piece .ensures .0) .there,
       piece-some (a .args .context) (a .args .s .now)
           (t .before .before .before .before .before .before .plain-run .result) (q .result) (a .pre .0) (q .ensures) more,
     )
@@ -141,7 +141,7 @@ loop-again c =
     let q = c .before .before .before .before .before .before .before .before .piece-at in
     turn-piece (a .pre .2) (q .result)
     (turn-run (a .pre .2) (l .loop .inv) (t .before .before .before .before .before .before .plain-run .ensures)
-    (t .before .before .before .copy .ensures)) (a .pre .0) (q .ensures) more (c .before .before .before .before .before .put-piece .ensures)
+    (t .before .before .before .copy .ensures)) (a .pre .0) (q .ensures) more (c .before .before .before .before .before .put-piece .ensures .0)
 
 same-length-3 : tie.Need-same-length-3 Inv-loop μ-loop
 same-length-3 c = going-room (c .before .loop .inv) builtin-narrow .2

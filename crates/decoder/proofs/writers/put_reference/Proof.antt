@@ -11,7 +11,7 @@ use Rattle.decoder.proofs.writers.put_reference.Tie as tie
 
 returns : tie.Need-returns
 unfolding encodes
-returns c = rw (c .if1 .taken) (put-none _ _)
+returns c = rw (c .if1 .taken) (put-none _ _, omega arith)
 
 array-read-put-char : tie.Need-array-read-put-char
 array-read-put-char c = search needs
@@ -26,7 +26,8 @@ returns-2 : tie.Need-returns-2
 returns-2 c =
     let l = c .before .before .before .before .before .before .before .before .before .before .args .reference .chars in
     let two : length l ≡ 2 = search needs in
-    rw (c .if2 .taken, encodes-one l two) (c .before .before .before .before .put-char .ensures)
+    let p = c .before .before .before .before .put-char .ensures in
+    rw (c .if2 .taken, encodes-one l two) (p, omega (arith, p .next-is, encode-short (getD l 0 0)))
 
 array-read-put-char-2 : tie.Need-array-read-put-char-2
 array-read-put-char-2 c = search needs
@@ -44,8 +45,10 @@ returns-3 : tie.Need-returns-3
 returns-3 c =
     let r = c .before .before .before .before .before .before .before .before .before .before .before .before .before .before .args .reference in
     let two : length (r .chars) ≡ 2 = search needs in
+    let p = c .before .before .before .before .before .before .before .before .put-char .ensures in
+    let q = c .before .before .put-char2 .ensures in
     rw (encodes-both (r .chars) (r .«num_chars») two (omega arith))
-    (put-join (c .before .before .before .before .before .before .before .before .put-char .ensures) (c .before .before .put-char2 .ensures))
+    (put-join p q, omega (arith, p .next-is, q .next-is, encode-short (getD (r .chars) 0 0), encode-short (getD (r .chars) 1 0)))
 
 pub put-reference-spec : {M : Type 1} → statement M
 put-reference-spec =

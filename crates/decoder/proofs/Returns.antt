@@ -1,0 +1,235 @@
+-- What a call of the chunk decoder comes to, one law for each kind of return.
+use Prim.Native.Nat.{ℕ, _+_, _-_, _/_, _≤_, _<_}
+use mathlib.Core.Path.{_≡_, refl, sym, _∙_, ap, subst}
+use mathlib.Core.List.{List}
+use mathlib.Core.Bool.{Bool, true, false}
+use mathlib.Core.Logic.{_⊎_, inl, inr, ⊎-elim}
+use native.Mathlib.Omega.{arith}
+use lib.Dec.{ltb, leb}
+use lib.ListN.{length, take, length-take}
+use borrow.Author.Tests.{leb-true, lt-ltb, le-ltb}
+use Rattle.standard.specs.declared.Context.{Context}
+use Rattle.standard.specs.Notation.{if_then_else_}
+use Rattle.standard.specs.Answers.{done, ill-formed, too-long, stream-too-long, no-room, closed}
+use Rattle.standard.specs.Errors.{numbers}
+use Rattle.standard.specs.NameList.{builtin}
+use Rattle.standard.specs.Reading.{Reading}
+use Rattle.standard.specs.Rooms.{Wrote}
+use Rattle.standard.specs.Utf8.{readChar}
+use Rattle.standard.proofs.Choice.{and-true, test?}
+use Rattle.standard.proofs.Puts.{numbers-length}
+use Rattle.decoder.specs.declared.feeding.Walked as code
+use Rattle.decoder.specs.declared.stream.Held.{Held}
+use Rattle.decoder.specs.declared.stream.Stream.{Stream}
+use Rattle.decoder.specs.declared.stream.Fed.{Fed}
+use Rattle.decoder.specs.Machine.{nothing, finish}
+use Rattle.decoder.specs.Stream.{
+  At,
+  atBy,
+  placeOf,
+  Walked,
+  walk,
+  lacksRoom,
+  storeOf,
+  heldOf,
+  recordOf,
+  closedBy,
+  stOf,
+  atOf,
+  holds,
+  isPart,
+  isOpen,
+  Outcome,
+  outcome,
+  refuses,
+  closes,
+  walkedTo,
+  feedOf,
+  endOf,
+  fedOf,
+  Feeds,
+}
+use Rattle.decoder.specs.Turns.{Fit}
+use Rattle.decoder.specs.Feeding.{OpenAt, Open, Walks}
+use Rattle.decoder.proofs.Open.{open-fits, held-back, fit-of, at-back}
+use Rattle.decoder.proofs.Taking.{open-record}
+
+-- What a record says that is open.
+pub record Opened (r : Stream) : Type 0 where
+  pub count : r .held .count ≤ 32
+  pub part : r .«part_count» ≤ 3
+  pub long : r .taken ≤ 16777216
+  pub stored : holds builtin (r .held .state) (take (r .held .count) (r .held .store)) ≡ true
+  pub begun : isPart (readChar (take (r .«part_count») (r .part))) ≡ true
+  pub mark : r .held .place ≤ r .taken
+  pub were : r .held .count + r .«part_count» ≤ r .taken
+
+-- An open record says that.
+pub opened : (r : Stream) → isOpen builtin r ≡ true → Opened r
+unfolding isOpen
+opened r e =
+    let g = and-true _ (leb (r .held .count + r .«part_count») (r .taken)) e in
+    let f = and-true _ (leb (r .held .place) (r .taken)) (g .0) in
+    let p = and-true _ (isPart (readChar (take (r .«part_count») (r .part)))) (f .0) in
+    let h = and-true _ (holds builtin (r .held .state) (take (r .held .count) (r .held .store))) (p .0) in
+    let t = and-true _ (leb (r .taken) 16777216) (h .0) in
+    let c = and-true (leb (r .held .count) 32) (leb (r .«part_count») 3) (t .0) in
+    record {
+      count = leb-true (r .held .count) 32 (c .0);
+      part = leb-true (r .«part_count») 3 (c .1);
+      long = leb-true (r .taken) 16777216 (t .1);
+      stored = h .1;
+      begun = p .1;
+      mark = leb-true (r .held .place) (r .taken) (f .1);
+      were = leb-true (r .held .count + r .«part_count») (r .taken) (g .1);
+    }
+
+module _ (h : Held) {x : Held} (stored : holds builtin (h .state) (take (h .count) (h .store)) ≡ true) (is : x ≡ heldOf (stOf h)) where
+  -- What is held in the record of its state is of the same state.
+  pub same-state : stOf x ≡ stOf h
+  same-state = ap stOf is ∙ held-back (stOf h) (open-fits h stored)
+
+  -- It is within the limits.
+  pub is-fit : Fit x
+  is-fit = subst Fit (sym is) (fit-of (stOf h) (open-fits h stored))
+
+-- Too little room.
+lacks : (t e : ℕ) → (t < 64) ⊎ (e < 8) → lacksRoom t e ≡ true
+lacks t e (inl h) = rw (lt-ltb t 64 h)
+lacks t e (inr h) = rw (lt-ltb e 8 h) (⊎-elim (λ f. rw f) (λ f. rw f) (test? (ltb t 64)))
+
+-- Enough room.
+has-room : (t e : ℕ) → 64 ≤ t → 8 ≤ e → lacksRoom t e ≡ false
+has-room t e h i = rw (le-ltb t 64 h, le-ltb e 8 i)
+
+module _ (r : Stream) (t e : ℕ) where
+  -- The end: 8.
+  pub end-closed : isOpen builtin r ≡ false → endOf builtin r t e ≡ refuses closed r
+  unfolding endOf
+  end-closed o = rw o
+
+  -- A chunk: 8.
+  pub feed-closed : (chunk : List ℕ) → isOpen builtin r ≡ false → feedOf builtin r chunk t e ≡ refuses closed r
+  unfolding feedOf
+  feed-closed chunk o = rw o
+
+  module _ (o : isOpen builtin r ≡ true) where
+    -- The end: 5.
+    pub end-room : (t < 64) ⊎ (e < 8) → endOf builtin r t e ≡ refuses no-room r
+    unfolding endOf
+    end-room h = rw (o, lacks t e h)
+
+    -- 1.
+    pub end-inside : 64 ≤ t → 8 ≤ e → 0 < r .«part_count»
+        → endOf builtin r t e ≡ outcome ill-formed 0 (placeOf (atOf r)) nothing (closedBy (r .context) (r .taken))
+    unfolding endOf
+    end-inside h i k = rw (o, has-room t e h i, lt-ltb 0 (r .«part_count») k)
+
+    -- 0.
+    pub end-done : 64 ≤ t → 8 ≤ e → r .«part_count» ≤ 0
+        → endOf builtin r t e ≡ outcome done 0 0 (finish builtin (r .context) (stOf (r .held))) (closedBy (r .context) (r .taken))
+    unfolding endOf
+    end-done h i k = rw (o, has-room t e h i, le-ltb 0 (r .«part_count») k)
+
+    module _ (chunk : List ℕ) where
+      -- A chunk: 3.
+      pub feed-long : 65536 < length chunk → feedOf builtin r chunk t e ≡ refuses too-long r
+      unfolding feedOf
+      feed-long h = rw (o, lt-ltb 65536 (length chunk) h)
+
+      module _ (short : length chunk ≤ 65536) where
+        -- 4.
+        pub feed-stream-long : 16777216 < r .taken + length chunk → feedOf builtin r chunk t e ≡ refuses stream-too-long r
+        unfolding feedOf
+        feed-stream-long h = rw (o, le-ltb 65536 (length chunk) short, lt-ltb 16777216 (r .taken + length chunk) h)
+
+        module _ (fits : r .taken + length chunk ≤ 16777216) where
+          -- 5.
+          pub feed-room : (t < 64) ⊎ (e < 8) → feedOf builtin r chunk t e ≡ refuses no-room r
+          unfolding feedOf
+          feed-room h = rw (o, le-ltb 65536 (length chunk) short, le-ltb 16777216 (r .taken + length chunk) fits, lacks t e h)
+
+          -- What its bytes come to.
+          pub feed-walks : 64 ≤ t → 8 ≤ e
+              → feedOf builtin r chunk t e ≡ walkedTo (r .context) (r .taken) (walk builtin (r .context) t e (atOf r) chunk)
+          unfolding feedOf
+          feed-walks h i =
+              rw (o, le-ltb 65536 (length chunk) short, le-ltb 16777216 (r .taken + length chunk) fits, has-room t e h i)
+
+-- A call that comes to nothing writes nothing.
+pub feeds-nothing : {o : Outcome} {answer taken place : ℕ} {r : Stream} {text errors : List ℕ} {fed : Fed} → o ≡ outcome answer taken place nothing r
+    → fed ≡ fedOf (outcome answer taken place nothing r) → Feeds o text errors fed text errors
+unfolding numbers
+feeds-nothing e f = rw e (record { answered = f; texts = refl; numbers-of = refl })
+
+-- A call that comes to a reading writes that.
+pub wrote-feeds : {reads : Reading} {answer taken place w e : ℕ} {r : Stream} {text errors text′ errors′ : List ℕ} {fed : Fed}
+    → Wrote reads text 0 text′ w errors 0 errors′ e
+    → fed ≡ record { answer = answer; taken = taken; text = w; errors = e / 2; place = place; «record» = r }
+    → Feeds (outcome answer taken place reads r) text errors fed text′ errors′
+unfolding fedOf
+wrote-feeds {reads} {w = w} {e = e} wrote f =
+    let g : w ≡ length (reads .text) = omega (arith, wrote .texts .next-is) in
+    let h : e / 2 ≡ length (reads .errors) = omega (arith, wrote .numbers-of .next-is, numbers-length (reads .errors)) in
+    record { answered = f ∙ rw (g, h); texts = wrote .texts .new-is; numbers-of = wrote .numbers-of .new-is }
+
+module _ {context : Context} {w : Walked} {text errors text′ errors′ : List ℕ} {walked : code.Walked}
+    (h : Walks context w text 0 errors 0 walked text′ errors′) where
+  -- A walk of the code is what a call comes to.
+  pub walk-feeds : {fed : Fed} (before : ℕ) → fed ≡ record {
+    answer = walked .answer;
+    taken = walked .«record» .taken - before;
+    text = walked .text;
+    errors = walked .errors / 2;
+    place = if closes (walked .answer) then walked .«record» .taken - walked .«record» .«part_count» else 0;
+    «record» = if closes (walked .answer) then closedBy context (walked .«record» .taken) else walked .«record»;
+  } → Feeds (walkedTo context before w) text errors fed text′ errors′
+  unfolding walkedTo recordOf
+  walk-feeds {fed} before e = go (closes (w .answer)) (e ∙ rw (h .answered, h .recorded))
+    where
+      go : (t : Bool) → fed ≡ record {
+        answer = w .answer;
+        taken = w .stop .taken - before;
+        text = walked .text;
+        errors = walked .errors / 2;
+        place = if t then placeOf (w .stop) else 0;
+        «record» = if t then closedBy context (w .stop .taken) else recordOf context (w .stop);
+      }
+          → Feeds (if t then outcome (w .answer) (w .stop .taken - before) (placeOf (w .stop)) (w .gives) (closedBy context (w .stop .taken))
+          else outcome (w .answer) (w .stop .taken - before) 0 (w .gives) (recordOf context (w .stop))) text errors fed text′ errors′
+      go true f = wrote-feeds (h .wrote) f
+      go false f = wrote-feeds (h .wrote) f
+
+-- Where an open record's stream is.
+pub opened-at : (r : Stream) → Opened r → OpenAt (atOf r)
+opened-at r op = record {
+  fits = open-fits (r .held) (op .stored);
+  few = omega (arith, length-take (r .«part_count») (r .part), op .part);
+  begun = op .begun;
+  there = omega (arith, length-take (r .«part_count») (r .part), op .were);
+}
+
+module _ (r : Stream) (op : Opened r) {x : Stream} (is : x ≡ recordOf (r .context) (atOf r)) where
+  -- The same record with nothing past its counts.
+  pub cleared-open : Open x
+  cleared-open = subst Open (sym is) (open-record (r .context) (opened-at r op))
+
+  -- It says where the same stream is.
+  pub cleared-at : atOf x ≡ atOf r
+  cleared-at = ap atOf is ∙ at-back (r .context) (atOf r) (open-fits (r .held) (op .stored))
+
+  pub cleared-context : x .context ≡ r .context
+  unfolding recordOf
+  cleared-context = ap (λ (y : Stream). y .context) is
+
+  pub cleared-taken : x .taken ≡ r .taken
+  unfolding recordOf
+  cleared-taken = ap (λ (y : Stream). y .taken) is
+
+  -- A walk from it is a walk from the record.
+  pub cleared-walk : (chunk : List ℕ) {text errors text′ errors′ : List ℕ} {walked : code.Walked}
+      → Walks (x .context) (walk builtin (x .context) (length text) (length errors) (atOf x) chunk) text 0 errors 0 walked text′ errors′
+      → Walks (r .context) (walk builtin (r .context) (length text) (length errors) (atOf r) chunk) text 0 errors 0 walked text′ errors′
+  cleared-walk chunk {text} {errors} {text′} {errors′} {walked} h =
+      subst (λ (y : Context × At). Walks (y .0) (walk builtin (y .0) (length text) (length errors) (y .1) chunk) text 0 errors 0 walked text′ errors′)
+      (λ i. (cleared-context i, cleared-at i)) h

@@ -1,0 +1,383 @@
+-- The walk of the code over a chunk: what was taken so far is a walk that took all of it, and the rest goes on from there.
+use Prim.Native.Nat.{ℕ, suc, _+_, _-_, _*_, _≤_, _<_}
+use mathlib.Core.Path.{_≡_, refl, sym, _∙_, ap, ap₂, subst}
+use mathlib.Core.List.{List, [], _∷_, _++_}
+use mathlib.Core.Bool.{Bool, true, false, not, _||_}
+use mathlib.Core.Logic.{_≢_, _⊎_, inl, inr, ⊎-elim}
+use native.Mathlib.Omega.{arith}
+use native.Mathlib.Numerals.{add-one}
+use lib.Dec.{eqb, ltb}
+use lib.ListN.{length, getD, take, drop, length-append, length-take, length-drop, take-append-drop, drop-of-length-le}
+use lib.Seq.{drop-cons, take-add, take-all, take-append-le, drop-drop}
+use borrow.Author.Tests.{lt-ltb, le-ltb, eqb-false}
+use Rattle.standard.specs.declared.Context.{Context}
+use Rattle.standard.specs.declared.characters.CharRead.{CharRead}
+use Rattle.standard.specs.declared.characters.CharRead.the-variants.{Char, Incomplete, Illformed, End}
+use Rattle.standard.specs.Notation.{if_then_else_}
+use Rattle.standard.specs.Utf8.{readChar, encode}
+use Rattle.standard.specs.Answers.{done, room-used-up}
+use Rattle.standard.specs.Errors.{numbers}
+use Rattle.standard.specs.NameList.{builtin}
+use Rattle.standard.specs.Reading.{callsFor, Reading, _⊕_}
+use Rattle.standard.specs.Rooms.{Put, Wrote}
+use Rattle.standard.proofs.Back.{read-back}
+use Rattle.standard.proofs.Choice.{no-way, below?}
+use Rattle.standard.proofs.Puts.{wrote-none, wrote-join, put-length, numbers-length, ⊕-none}
+use Rattle.standard.proofs.Utf8.{read-append, read-length, read-take, read-end, end-length, incomplete-length}
+use Rattle.decoder.specs.declared.stream.Stream.{Stream}
+use Rattle.decoder.specs.declared.feeding.Walked as code
+use Rattle.decoder.specs.Machine.{nothing, step}
+use Rattle.decoder.specs.Stream.{
+  At,
+  atBy,
+  placeOf,
+  calledFor,
+  Move,
+  moveBy,
+  Walked,
+  stopsAt,
+  onward,
+  lastOf,
+  lacksRoom,
+  walk,
+  isPart,
+  recordOf,
+  atOf,
+}
+use Rattle.decoder.specs.Turns.{Fits}
+use Rattle.decoder.specs.Feeding.{OpenAt, Open, byteWalk, Walks, Bounded}
+use Rattle.decoder.proofs.Keeps.{step-fits}
+use Rattle.decoder.proofs.Open.{at-back}
+use Rattle.decoder.proofs.Walks.{walkAfter, walk-on, walk-stops, walk-one, walk-full}
+
+-- The record of where an open stream is.
+pub open-record : (context : Context) {at : At} → OpenAt at → Open (recordOf context at)
+unfolding recordOf
+open-record context {at} o =
+    let back = at-back context at (o .fits) in
+    record { whole = ap (recordOf context) (sym back); at = subst OpenAt (sym back) o }
+
+-- A character that is whole with one byte more has all of its bytes.
+own-whole : (part : List ℕ) (b c n : ℕ) → isPart (readChar part) ≡ true → readChar (part ++ b ∷ []) ≡ Char c n → n ≡ length (part ++ b ∷ [])
+own-whole part b c n begun e =
+    ⊎-elim (λ (h : n < length (part ++ b ∷ [])). no-way (sym begun ∙ ap isPart (sooner h)))
+    (λ (h : length (part ++ b ∷ []) ≤ n). omega (arith, read-length (part ++ b ∷ []) c n e)) (below? n (length (part ++ b ∷ [])))
+  where
+    sooner : n < length (part ++ b ∷ []) → readChar part ≡ Char c n
+    sooner h =
+        let short : n ≤ length part = omega (arith, length-append part (b ∷ [])) in
+        ap readChar (sym (take-append-drop n part))
+        ∙ read-append (take n part) (drop n part) (Char c n)
+        (ap readChar (sym (take-append-le n part (b ∷ []) short)) ∙ read-take (part ++ b ∷ []) c n e) tt
+
+-- So they are those that it is written with.
+pub own-encoded : (part : List ℕ) (b c n : ℕ) → isPart (readChar part) ≡ true → readChar (part ++ b ∷ []) ≡ Char c n → encode c ≡ part ++ b ∷ []
+own-encoded part b c n begun e =
+    let own = part ++ b ∷ [] in
+    read-back own c n e .0 ∙ take-all n own (omega (arith, own-whole part b c n begun e))
+
+-- A byte that is taken leaves the stream open, and is counted.
+pub open-byte : (context : Context) {at : At} (b : ℕ) → OpenAt at → byteWalk builtin context at b .answer ≡ done
+    → OpenAt (byteWalk builtin context at b .stop) × (byteWalk builtin context at b .stop .taken ≡ suc (at .taken))
+unfolding byteWalk
+open-byte context {at} b o = by (readChar own) refl
+  where
+    own : List ℕ
+    own = at .part ++ b ∷ []
+
+    long : length own ≡ suc (length (at .part))
+    long = length-append (at .part) (b ∷ []) ∙ omega arith
+
+    -- What is read of it and the bytes before it, as what it comes to.
+    comes : (r : CharRead) (answer : ℕ) → Bool → Walked
+    comes r answer taken =
+        if not taken then stopsAt answer (lastOf builtin context answer (at .st)) at
+        else stopsAt done (moveBy builtin context at r own .gives) (moveBy builtin context at r own .to)
+
+    whole : (c n : ℕ) → readChar own ≡ Char c n → (t : Bool) → eqb (callsFor context c) done ≡ t
+        → comes (Char c n) (callsFor context c) t .answer ≡ done
+        → OpenAt (comes (Char c n) (callsFor context c) t .stop) × (comes (Char c n) (callsFor context c) t .stop .taken ≡ suc (at .taken))
+    whole c n e false f i = absurd (omega (arith, eqb-false (callsFor context c) done f))
+    whole c n e true f i = (
+      record {
+        fits =
+            subst (λ (l : List ℕ). Fits (step builtin context (at .st) (placeOf at) c l .next)) (own-encoded (at .part) b c n (o .begun) e)
+            (step-fits context (at .st) (placeOf at) c (o .fits));
+        few = omega arith;
+        begun = ap isPart (read-end [] refl);
+        there = omega arith;
+      },
+      refl,
+    )
+
+    by : (r : CharRead) → readChar own ≡ r → comes r (calledFor context r) (eqb (calledFor context r) done) .answer ≡ done
+        → OpenAt (comes r (calledFor context r) (eqb (calledFor context r) done) .stop)
+        × (comes r (calledFor context r) (eqb (calledFor context r) done) .stop .taken ≡ suc (at .taken))
+    by (Char c n) e i = whole c n e (eqb (callsFor context c) done) refl i
+    by (Incomplete n) e i = (
+      record {
+        fits = o .fits;
+        few = omega (arith, incomplete-length own n e);
+        begun = ap isPart e;
+        there = omega (arith, long, o .there);
+      },
+      refl,
+    )
+    by (Illformed n) e i = absurd (omega arith)
+    by End e i = absurd (omega (arith, long, end-length own e))
+
+-- A byte that is not taken leaves the stream where it is.
+byte-stays : (context : Context) (at : At) (b : ℕ) → byteWalk builtin context at b .answer ≢ done → byteWalk builtin context at b .stop ≡ at
+unfolding byteWalk
+byte-stays context at b = by (eqb (calledFor context (readChar own)) done)
+  where
+    own : List ℕ
+    own = at .part ++ b ∷ []
+
+    comes : Bool → Walked
+    comes taken =
+        if not taken then stopsAt (calledFor context (readChar own)) (lastOf builtin context (calledFor context (readChar own)) (at .st)) at
+        else stopsAt done (moveBy builtin context at (readChar own) own .gives) (moveBy builtin context at (readChar own) own .to)
+
+    by : (t : Bool) → comes t .answer ≢ done → comes t .stop ≡ at
+    by true e = absurd (e refl)
+    by false e = refl
+
+-- A walk that ends where a stream is open is bounded.
+bounded : (start : Stream) (n : ℕ) {x : code.Walked} (at : At) → OpenAt at → start .taken ≤ at .taken → x .«record» ≡ recordOf (start .context) at
+    → x .text ≤ 64 * n → x .errors ≤ 8 * n → Bounded start n x
+unfolding recordOf
+bounded start n at o before is text-few errors-few =
+    let taken-is = ap (λ (y : Stream). y .taken) is in
+    let count-is = ap (λ (y : Stream). y .«part_count») is in record {
+      text-few = text-few;
+      errors-few = errors-few;
+      onward = omega (arith, taken-is);
+      there = omega (arith, taken-is, count-is, o .there);
+    }
+
+-- With at bytes of a chunk taken: the record and the rooms are those of a walk over them that took them all.
+pub record Taken (start : Stream) (chunk text₀ errors₀ : List ℕ) (r : Stream) (at : ℕ) (text : List ℕ) (w : ℕ) (errors : List ℕ) (e : ℕ)
+    : Type 0 where
+  pub there : at ≤ length chunk
+  pub here : At
+  pub still-open : OpenAt here
+  pub recorded : r ≡ recordOf (start .context) here
+  pub taken-is : here .taken ≡ start .taken + at
+  pub so-far : Reading
+  pub walked : walk builtin (start .context) (length text₀) (length errors₀) (atOf start) (take at chunk) ≡ stopsAt done so-far here
+  pub wrote : Wrote so-far text₀ 0 text w errors₀ 0 errors e
+  pub text-in : w ≤ length text
+  pub errors-in : e ≤ length errors
+  pub text-few : w ≤ 64 * at
+  pub errors-few : e ≤ 8 * at
+
+-- The walk over the whole chunk.
+abbrev pub whole : Stream → (chunk text errors : List ℕ) → Walked
+whole start chunk text errors = walk builtin (start .context) (length text) (length errors) (atOf start) chunk
+
+module _ {start : Stream} {chunk text₀ errors₀ : List ℕ} where
+  -- Nothing is taken yet.
+  pub taken-start : Open start → Taken start chunk text₀ errors₀ start 0 text₀ 0 errors₀ 0
+  unfolding walk
+  taken-start o = record {
+    there = omega arith;
+    here = atOf start;
+    still-open = o .at;
+    recorded = o .whole;
+    taken-is = omega arith;
+    so-far = nothing;
+    walked = refl;
+    wrote = wrote-none text₀ 0 errors₀ 0;
+    text-in = omega arith;
+    errors-in = omega arith;
+    text-few = omega arith;
+    errors-few = omega arith;
+  }
+
+  module _ {r : Stream} {at w e : ℕ} {text errors : List ℕ} (g : Taken start chunk text₀ errors₀ r at text w errors e) where
+    -- The rooms are as long as they were, and what is free in them is what the walk has left.
+    pub taken-room : (length text ≡ length text₀) × (length errors ≡ length errors₀) × (w ≡ length (g .so-far .text))
+        × (e ≡ 2 * length (g .so-far .errors))
+    taken-room = (
+      put-length (g .wrote .texts),
+      put-length (g .wrote .numbers-of),
+      omega (arith, g .wrote .texts .next-is),
+      omega (arith, g .wrote .numbers-of .next-is, numbers-length (g .so-far .errors)),
+    )
+
+    -- The record is that of an open stream, of the same context, with its bytes counted.
+    pub taken-open : Open r
+    taken-open = subst Open (sym (g .recorded)) (open-record (start .context) (g .still-open))
+
+    pub taken-at : atOf r ≡ g .here
+    taken-at = ap atOf (g .recorded) ∙ at-back (start .context) (g .here) (g .still-open .fits)
+
+    pub taken-count : r .taken ≡ start .taken + at
+    taken-count = ap (λ (x : At). x .taken) taken-at ∙ g .taken-is
+
+    pub taken-context : r .context ≡ start .context
+    unfolding recordOf
+    taken-context = ap (λ (x : Stream). x .context) (g .recorded)
+
+    -- What is left of the room, as the code has it.
+    left : (s : List ℕ) → walkAfter builtin (start .context) (g .so-far) (length text₀) (length errors₀) (g .here) s
+        ≡ walk builtin (start .context) (length text - w) (length errors - e) (g .here) s
+    left s =
+        let k = taken-room in
+        ap₂ (λ (t n : ℕ). walk builtin (start .context) t n (g .here) s)
+        (let i : length text₀ - length (g .so-far .text) ≡ length text - w = omega (arith, k .0, k .2) in i)
+        (let i : length errors₀ - 2 * length (g .so-far .errors) ≡ length errors - e = omega (arith, k .1, k .3) in i)
+
+    -- A walk over the bytes so far and some more.
+    on : (s t : List ℕ) → take at chunk ++ s ≡ t → walk builtin (start .context) (length text₀) (length errors₀) (atOf start) t
+        ≡ onward (g .so-far) (walk builtin (start .context) (length text - w) (length errors - e) (g .here) s)
+    on s t is =
+        ap (walk builtin (start .context) (length text₀) (length errors₀) (atOf start)) (sym is)
+        ∙ walk-on builtin (start .context) (length text₀) (length errors₀) (atOf start) (take at chunk) s (ap (λ (x : Walked). x .answer) (g .walked))
+        ∙ ap (λ (x : Walked). onward (x .gives) (walkAfter builtin (start .context) (x .gives) (length text₀) (length errors₀) (x .stop) s)) (g .walked)
+        ∙ ap (onward (g .so-far)) (left s)
+
+    -- The walk over the whole chunk goes on from here.
+    rest : whole start chunk text₀ errors₀ ≡ onward (g .so-far) (walk builtin (start .context) (length text - w) (length errors - e) (g .here) (drop at chunk))
+    rest = on (drop at chunk) chunk (take-append-drop at chunk)
+
+    -- Some bytes more are taken.
+    pub taken-more : {r′ : Stream} {text′ errors′ : List ℕ} {w′ e′ : ℕ} (k : ℕ) (gives : Reading) (here : At) → at + k ≤ length chunk
+        → walk builtin (start .context) (length text - w) (length errors - e) (g .here) (take k (drop at chunk)) ≡ stopsAt done gives here
+        → OpenAt here → here .taken ≡ start .taken + (at + k) → r′ ≡ recordOf (start .context) here
+        → Wrote gives text w text′ w′ errors e errors′ e′ → w′ ≤ length text′ → e′ ≤ length errors′ → w′ ≤ 64 * (at + k) → e′ ≤ 8 * (at + k)
+        → Taken start chunk text₀ errors₀ r′ (at + k) text′ w′ errors′ e′
+    taken-more k gives here there walked opened taken recorded wrote text-in errors-in text-few errors-few = record {
+      there = there;
+      here = here;
+      still-open = opened;
+      recorded = recorded;
+      taken-is = taken;
+      so-far = g .so-far ⊕ gives;
+      walked = on (take k (drop at chunk)) (take (at + k) chunk) (sym (take-add at k chunk)) ∙ ap (onward (g .so-far)) walked;
+      wrote = wrote-join (g .wrote) wrote;
+      text-in = text-in;
+      errors-in = errors-in;
+      text-few = text-few;
+      errors-few = errors-few;
+    }
+
+    -- The walk ends here.
+    pub taken-ends : {x : code.Walked} {text′ errors′ : List ℕ} (a : ℕ) (gives : Reading) (stop : At)
+        → walk builtin (start .context) (length text - w) (length errors - e) (g .here) (drop at chunk) ≡ stopsAt a gives stop → x .answer ≡ a
+        → x .«record» ≡ recordOf (start .context) stop → Wrote gives text w text′ (x .text) errors e errors′ (x .errors)
+        → Walks (start .context) (whole start chunk text₀ errors₀) text₀ 0 errors₀ 0 x text′ errors′
+    taken-ends {x} {text′} {errors′} a gives stop walked answered recorded wrote =
+        let all = rest ∙ ap (onward (g .so-far)) walked in record {
+          answered = answered ∙ sym (ap (λ (x : Walked). x .answer) all);
+          recorded = recorded ∙ ap (λ (x : Walked). recordOf (start .context) (x .stop)) (sym all);
+          wrote = subst (λ (r : Reading). Wrote r text₀ 0 text′ (x .text) errors₀ 0 errors′ (x .errors)) (ap (λ (x : Walked). x .gives) (sym all))
+              (wrote-join (g .wrote) wrote);
+        }
+
+    -- The next byte, where a walk over it is what the code's comes to.
+    module _ {x : code.Walked} {text′ errors′ : List ℕ} (more : at < length chunk) (text-free : w + 64 ≤ length text) (errors-free : e + 8 ≤ length errors)
+        (comes : Walks (r .context) (byteWalk builtin (r .context) (atOf r) (getD chunk at 0)) text w errors e x text′ errors′
+        × (x .text ≤ w + 64) × (x .errors ≤ e + 8)) where
+      next : Walks (r .context) (byteWalk builtin (r .context) (atOf r) (getD chunk at 0)) text w errors e x text′ errors′
+      next = comes .0
+
+      -- What it writes is bounded.
+      text-bounded : x .text ≤ w + 64
+      text-bounded = comes .1
+
+      errors-bounded : x .errors ≤ e + 8
+      errors-bounded = comes .2
+
+      -- There is room for it.
+      room : lacksRoom (length text - w) (length errors - e) ≡ false
+      room = rw (le-ltb (length text - w) 64 (omega arith), le-ltb (length errors - e) 8 (omega arith))
+
+      -- The walk over it, from where the stream is.
+      abbrev byte : Walked
+      byte = byteWalk builtin (start .context) (g .here) (getD chunk at 0)
+
+      -- As the code's comes to it.
+      same : byteWalk builtin (r .context) (atOf r) (getD chunk at 0) ≡ byte
+      same = ap₂ (λ (c : Context) (a : At). byteWalk builtin c a (getD chunk at 0)) taken-context taken-at
+
+      one : walk builtin (start .context) (length text - w) (length errors - e) (g .here) (getD chunk at 0 ∷ []) ≡ byte
+      one = walk-one builtin (start .context) (length text - w) (length errors - e) (g .here) (getD chunk at 0) room
+
+      answer-is : x .answer ≡ byte .answer
+      answer-is = next .answered ∙ ap (λ (y : Walked). y .answer) same
+
+      record-is : x .«record» ≡ recordOf (start .context) (byte .stop)
+      record-is = next .recorded ∙ ap₂ (λ (c : Context) (y : Walked). recordOf c (y .stop)) taken-context same
+
+      wrote-is : Wrote (byte .gives) text w text′ (x .text) errors e errors′ (x .errors)
+      wrote-is = subst (λ (y : Walked). Wrote (y .gives) text w text′ (x .text) errors e errors′ (x .errors)) same (next .wrote)
+
+      -- It is taken.
+      pub taken-byte : x .answer ≡ done → Taken start chunk text₀ errors₀ (x .«record») (at + 1) text′ (x .text) errors′ (x .errors)
+      taken-byte e =
+          let d : byte .answer ≡ done = sym answer-is ∙ e in
+          let opened = open-byte (start .context) (getD chunk at 0) (g .still-open) d in
+          let same-text = put-length (wrote-is .texts) in
+          let same-errors = put-length (wrote-is .numbers-of) in
+          taken-more 1 (byte .gives) (byte .stop) (omega arith)
+          (ap (walk builtin (start .context) (length text - w) (length errors - _) (g .here)) (ap (take 1) (drop-cons chunk at 0 more)) ∙ one
+          ∙ ap (λ (a : ℕ). stopsAt a (byte .gives) (byte .stop)) d)
+          (opened .0) (omega (arith, opened .1, g .taken-is)) record-is wrote-is
+          (omega (arith, text-bounded, same-text)) (omega (arith, errors-bounded, same-errors)) (omega (arith, text-bounded, g .text-few))
+          (omega (arith, errors-bounded, g .errors-few))
+
+      -- It stops the walk.
+      pub taken-stop : x .answer ≢ done
+          → Walks (start .context) (whole start chunk text₀ errors₀) text₀ 0 errors₀ 0 x text′ errors′ × Bounded start (length chunk) x
+      taken-stop e = (
+        taken-ends (byte .answer) (byte .gives) (byte .stop)
+            (ap (walk builtin (start .context) (length text - w) (length errors - _) (g .here)) (drop-cons chunk at 0 more)
+            ∙ walk-stops builtin (start .context) (length text - w) (length errors - _) (g .here) (getD chunk at 0 ∷ []) (drop (suc at) chunk)
+            (λ f. e (answer-is ∙ sym (ap (λ (y : Walked). y .answer) one) ∙ f)) ∙ one)
+            answer-is record-is wrote-is,
+        bounded start (length chunk) (g .here) (g .still-open) (omega (arith, g .taken-is))
+            (record-is ∙ ap (recordOf (start .context)) (byte-stays (start .context) (g .here) (getD chunk at 0) (λ f. e (answer-is ∙ f))))
+            (omega (arith, text-bounded, g .text-few)) (omega (arith, errors-bounded, g .errors-few)),
+      )
+
+    -- The walk of the code ends here.
+    abbrev ended : ℕ → code.Walked
+    ended answer = record { answer = answer; «record» = r; text = w; errors = e }
+
+    ended-bounded : (answer : ℕ) → Bounded start (length chunk) (ended answer)
+    ended-bounded answer =
+        bounded start (length chunk) (g .here) (g .still-open) (omega (arith, g .taken-is)) (g .recorded) (omega (arith, g .text-few, g .there))
+        (omega (arith, g .errors-few, g .there))
+
+    -- The next byte lacks its room.
+    pub taken-full : at < length chunk → (length text - w < 64) ⊎ (length errors - e < 8)
+        → Walks (start .context) (whole start chunk text₀ errors₀) text₀ 0 errors₀ 0 (ended room-used-up) text errors
+        × Bounded start (length chunk) (ended room-used-up)
+    taken-full more lacks = (
+      taken-ends room-used-up nothing (g .here)
+          (walk-full builtin (start .context) (length text - w) (length errors - e) (g .here) (drop at chunk) (simp length-drop (omega arith)) (full lacks))
+          refl (g .recorded) (wrote-none text w errors e),
+      ended-bounded room-used-up,
+    )
+      where
+        full : (length text - w < 64) ⊎ (length errors - e < 8) → lacksRoom (length text - w) (length errors - e) ≡ true
+        full (inl h) = rw (lt-ltb (length text - w) 64 h)
+        full (inr h) = go (ltb (length text - w) 64)
+          where
+            go : (t : Bool) → t || ltb (length errors - e) 8 ≡ true
+            go true = refl
+            go false = lt-ltb (length errors - e) 8 h
+
+    -- All of the chunk is taken.
+    pub taken-all : length chunk ≤ at
+        → Walks (start .context) (whole start chunk text₀ errors₀) text₀ 0 errors₀ 0 (ended done) text errors
+        × Bounded start (length chunk) (ended done)
+    unfolding walk
+    taken-all all = (
+      taken-ends done nothing (g .here)
+          (ap (walk builtin (start .context) (length text - w) (length errors - e) (g .here)) (drop-of-length-le chunk all)) refl (g .recorded)
+          (wrote-none text w errors e),
+      ended-bounded done,
+    )

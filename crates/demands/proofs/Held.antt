@@ -1,0 +1,197 @@
+-- Document 01, 'The chunk decoder', the held rule: after any calls from a new stream, what was written is what the rule releases of the bytes
+-- that were taken. `released` is the rule, by itself.
+use Prim.Native.Nat.{ℕ, _+_}
+use mathlib.Core.Path.{_≡_, refl, sym, _∙_, ap, subst}
+use mathlib.Core.List.{List, [], _++_, append-nil}
+use mathlib.Core.Bool.{Bool, true, false, _||_, _&&_}
+use mathlib.Core.Logic.{⊎-elim}
+use native.Mathlib.Omega.{arith}
+use lib.Dec.{leb, eqb}
+use lib.ListN.{length, take, length-append}
+use lib.Seq.{length-take-le, take-length}
+use borrow.Author.Tests.{eqb-true}
+use Rattle.standard.specs.declared.Context.{Context}
+use Rattle.standard.specs.Notation.{if_then_else_}
+use Rattle.standard.specs.Answers.{done, ill-formed, context-end, closed, longest-stream}
+use Rattle.standard.specs.NameList.{builtin}
+use Rattle.standard.specs.Reading as Reading
+use Rattle.standard.specs.Reading.{Stop, stopOf, covered, Reading, _⊕_, decode}
+use Rattle.standard.proofs.Choice.{no-way, test?}
+use Rattle.standard.proofs.Puts.{⊕-assoc, ⊕-none}
+use Rattle.decoder.specs.declared.stream.Stream.{Stream}
+use Rattle.decoder.specs.Held.{released}
+use Rattle.decoder.specs.Machine.{nothing, finish}
+use Rattle.decoder.specs.Stream.{
+  stopsAt,
+  Outcome,
+  refuses,
+  lastOf,
+  holds,
+  isOpen,
+  closedBy,
+  closes,
+  feedOf,
+  endOf,
+  newStream,
+}
+use Rattle.decoder.proofs.Bytes.{start}
+use Rattle.decoder.proofs.StreamReads.{go-held, go-ended}
+use Rattle.decoder.proofs.Tidy.{builtin-tidy}
+use Rattle.decoder.proofs.Cuts.{go-end}
+use Rattle.decoder.proofs.Standing.{
+  Standing,
+  Closing,
+  Comes,
+  goes,
+  stops,
+  sound-start,
+  standing-new,
+  standing-taken,
+  standing-context,
+  feed-is,
+  end-is,
+}
+
+-- A stream is still open, or an answer closed it.
+pub data Phase : Type 0 where
+  Still : Phase
+  By : (answer : ℕ) → Phase
+
+-- After a chunk that was answered so, and after the end.
+abbrev pub fed : Phase → ℕ → Phase
+fed phase answer = if closes answer then By answer else phase
+
+abbrev pub ended : Phase → ℕ → Phase
+ended phase answer = if eqb answer done || eqb answer ill-formed then By answer else phase
+
+-- Calls from a new stream, in any order and with any chunks and rooms: the record, the bytes taken, what was given, and the phase.
+pub data Calls (context : Context) : Stream → List ℕ → Reading → Phase → Type 0 where
+  new : Calls context (newStream context) [] nothing Still
+  feeds : {r : Stream} {t : List ℕ} {g : Reading} {phase : Phase} → Calls context r t g phase → (chunk : List ℕ) (text errors : ℕ) (o : Outcome)
+      → o ≡ feedOf builtin r chunk text errors → Calls context (o .record′) (t ++ take (o .taken) chunk) (g ⊕ o .gives) (fed phase (o .answer))
+  ends : {r : Stream} {t : List ℕ} {g : Reading} {phase : Phase} → Calls context r t g phase → (text errors : ℕ) (o : Outcome)
+      → o ≡ endOf builtin r text errors → Calls context (o .record′) t (g ⊕ o .gives) (ended phase (o .answer))
+
+-- What is given of the bytes taken: what the held rule releases, and after 0 or 7 all of them.
+abbrev pub Gave : Context → List ℕ → Reading → Phase → Type 0
+Gave context t g Still = g ≡ released builtin context t
+Gave context t g (By answer) = g ≡ (if eqb answer done || eqb answer context-end then decode builtin context t else released builtin context t)
+
+-- A record as the calls left it.
+abbrev pub Left : Context → Stream → List ℕ → Reading → Phase → Type 0
+Left context r t g Still = Standing context r t g
+Left context r t g (By answer) = (r ≡ closedBy context (length t)) × Gave context t g (By answer)
+
+-- The record of a stream that closed counts as closed.
+closed-closed : (context : Context) (n : ℕ) → isOpen builtin (closedBy context n) ≡ false
+unfolding isOpen closedBy holds
+closed-closed context n = by (leb n longest-stream) _ _ _
+  where
+    by : (t p a b : Bool) → (((t && false) && p) && a) && b ≡ false
+    by true p a b = refl
+    by false p a b = refl
+
+-- An answer that closes a stream while it is fed is not 0.
+not-done : (answer : ℕ) → closes answer ≡ true → eqb answer done ≡ false
+not-done answer e = ⊎-elim (λ f. no-way (sym e ∙ ap closes (eqb-true answer done f))) (λ f. f) (test? (eqb answer done))
+
+-- Bytes that are all covered.
+all-covered : (context : Context) (t : List ℕ) → stopOf context t ≡ Reading.stops done (length t) → covered context t ≡ t
+all-covered context t e = ap (λ (x : Stop). take (x .place) t) e ∙ take-length t
+
+-- Nothing was taken and nothing given.
+same : (context : Context) (r : Stream) (t : List ℕ) (g : Reading) (phase : Phase) → Left context r t g phase
+    → Left context r (t ++ []) (g ⊕ nothing) phase
+same context r t g phase left =
+    subst (λ (x : List ℕ × Reading). Left context r (x .0) (x .1) phase) (λ i. (sym (append-nil t) i, sym (⊕-none g) i)) left
+
+module _ {context : Context} {r : Stream} {t : List ℕ} {g : Reading} (s : Standing context r t g) where
+  -- A call that closes the stream.
+  closing : (chunk : List ℕ) {o : Outcome} → closes (o .answer) ≡ true → Closing s chunk o
+      → Left context (o .record′) (t ++ take (o .taken) chunk) (g ⊕ o .gives) (By (o .answer))
+  closing chunk {o} e c = (c .record-is ∙ ap (closedBy context) (sym long), gave (eqb (o .answer) context-end) refl)
+    where
+      took : List ℕ
+      took = t ++ take (o .taken) chunk
+
+      long : length (t ++ take (o .taken) chunk) ≡ length t + o .taken
+      long = length-append t (take (o .taken) chunk) ∙ ap (λ (n : ℕ). length t + n) (length-take-le (o .taken) chunk (c .within))
+
+      gave : (u : Bool) → eqb (o .answer) context-end ≡ u → Gave context took (g ⊕ o .gives) (By (o .answer))
+      gave true f =
+          let seven = eqb-true (o .answer) context-end f in
+          let stopped = c .stopped ∙ ap (λ (a : ℕ). stopsAt a (g ⊕ o .gives) (c .stop)) seven in
+          let whole = go-ended builtin context builtin-tidy took (g ⊕ c .before) (c .stop) (c .took) (go-end context start (t ++ chunk) sound-start stopped) in
+          rw (not-done (o .answer) e, f)
+          (ap (λ (x : Reading). g ⊕ x) (c .gave ∙ ap (λ (x : Bool). c .before ⊕ (if x then finish builtin context (c .stop .st) else nothing)) f)
+          ∙ sym (⊕-assoc g (c .before) (finish builtin context (c .stop .st))) ∙ whole .0
+          ∙ ap (decode builtin context) (all-covered context took (whole .1)))
+      gave false f =
+          rw (not-done (o .answer) e, f)
+          (ap (λ (x : Reading). g ⊕ x)
+          (c .gave ∙ ap (λ (x : Bool). c .before ⊕ (if x then finish builtin context (c .stop .st) else nothing)) f ∙ ⊕-none (c .before))
+          ∙ go-held builtin context builtin-tidy took (g ⊕ c .before) (c .stop) (c .took) .0)
+
+  -- A chunk.
+  after-feed : (chunk : List ℕ) (text errors : ℕ)
+      → let o = feedOf builtin r chunk text errors in
+      Left context (o .record′) (t ++ take (o .taken) chunk) (g ⊕ o .gives) (fed Still (o .answer))
+  after-feed chunk text errors =
+      feed-is s (λ o. Left context (o .record′) (t ++ take (o .taken) chunk) (g ⊕ o .gives) (fed Still (o .answer))) chunk text errors
+      (same context r t g Still s) (same context r t g Still s) (same context r t g Still s) by
+    where
+      by : (o : Outcome) → Comes s chunk o → Left context (o .record′) (t ++ take (o .taken) chunk) (g ⊕ o .gives) (fed Still (o .answer))
+      by o (goes e says all some within on) = rw e on
+      by o (stops e c) = rw e (closing chunk e c)
+
+  -- The end.
+  after-end : (text errors : ℕ) → let o = endOf builtin r text errors in Left context (o .record′) t (g ⊕ o .gives) (ended Still (o .answer))
+  after-end text errors =
+      end-is s (λ o. Left context (o .record′) t (g ⊕ o .gives) (ended Still (o .answer))) text errors
+      (subst (λ (x : Reading). Standing context r t x) (sym (⊕-none g)) s)
+      (λ h. (refl, ⊕-none g ∙ go-held builtin context builtin-tidy t g (s .here) (s .went) .0))
+      (λ h. let whole = go-ended builtin context builtin-tidy t g (s .here) (s .went) h in
+      (refl, whole .0 ∙ ap (decode builtin context) (all-covered context t (whole .1))))
+
+module _ (context : Context) (r : Stream) (t : List ℕ) (g : Reading) where
+  -- A closed stream refuses every chunk.
+  feed-left : (phase : Phase) → Left context r t g phase → (chunk : List ℕ) (text errors : ℕ)
+      → let o = feedOf builtin r chunk text errors in
+      Left context (o .record′) (t ++ take (o .taken) chunk) (g ⊕ o .gives) (fed phase (o .answer))
+  unfolding feedOf
+  feed-left Still s chunk text errors = after-feed s chunk text errors
+  feed-left (By answer) w chunk text errors =
+      let shut : isOpen builtin r ≡ false = ap (isOpen builtin) (w .0) ∙ closed-closed context (length t) in
+      rw shut (same context r t g (By answer) w)
+
+  -- And every end.
+  end-left : (phase : Phase) → Left context r t g phase → (text errors : ℕ)
+      → let o = endOf builtin r text errors in Left context (o .record′) t (g ⊕ o .gives) (ended phase (o .answer))
+  unfolding endOf
+  end-left Still s text errors = after-end s text errors
+  end-left (By answer) w text errors =
+      let shut : isOpen builtin r ≡ false = ap (isOpen builtin) (w .0) ∙ closed-closed context (length t) in
+      rw shut (subst (λ (x : Reading). Left context r t x (By answer)) (sym (⊕-none g)) w)
+
+-- Every call leaves it so.
+pub left : {context : Context} {r : Stream} {t : List ℕ} {g : Reading} {phase : Phase} → Calls context r t g phase → Left context r t g phase
+left {context} new = standing-new context
+left {context} (feeds {r} {t} {g} {phase} c chunk text errors o is) =
+    subst (λ (o : Outcome). Left context (o .record′) (t ++ take (o .taken) chunk) (g ⊕ o .gives) (fed phase (o .answer))) (sym is)
+    (feed-left context r t g phase (left c) chunk text errors)
+left {context} (ends {r} {t} {g} {phase} c text errors o is) =
+    subst (λ (o : Outcome). Left context (o .record′) t (g ⊕ o .gives) (ended phase (o .answer))) (sym is)
+    (end-left context r t g phase (left c) text errors)
+
+-- The record's taken count is that of the bytes taken, and what was given is what the rule releases of them.
+pub held : {context : Context} {r : Stream} {t : List ℕ} {g : Reading} {phase : Phase} → Calls context r t g phase
+    → (r .taken ≡ length t) × Gave context t g phase
+unfolding closedBy
+held {context} {r} {t} {g} {phase} c = by phase (left c)
+  where
+    by : (phase : Phase) → Left context r t g phase → (r .taken ≡ length t) × Gave context t g phase
+    by Still s = (standing-taken s, go-held builtin context builtin-tidy t g (s .here) (s .went) .0)
+    by (By answer) w = (taken (w .0), w .1)
+      where
+        taken : r ≡ closedBy context (length t) → r .taken ≡ length t
+        taken e = ap (λ (x : Stream). x .taken) e
