@@ -29,3 +29,4 @@ pub mod Standing
 pub mod TurnLaws
 pub mod Turning
 pub mod NameTurns
+pub mod SkimLaws

@@ -21,8 +21,8 @@ use Rattle.standard.proofs.Computing.{computing}
 use Rattle.standard.proofs.Every.{All}
 use Rattle.standard.proofs.Lists.{below, below-at}
 use Rattle.standard.proofs.Utf8.{read-length}
-use Rattle.decoder.specs.Runs.{plain}
-use Rattle.decoder.proofs.Quiet.{plain-is}
+use Rattle.decoder.specs.Runs.{standing}
+use Rattle.decoder.proofs.Quiet.{standing-is}
 
 -- A character c of n bytes is at the front of s.
 pub data Looks : List ℕ → ℕ → ℕ → Type 0 where
@@ -129,7 +129,7 @@ inReference b = alphanumeric b || eqb b (code ";") || eqb b (code "#")
 
 -- A byte that is one is plain: computed for each ASCII byte.
 stands : ℕ → Bool
-stands b = not (inReference b) || plain b
+stands b = not (inReference b) || standing b
 
 -- All pass.
 all-stand : below 0x80 stands ≡ true
@@ -146,7 +146,7 @@ reference-ascii =
 -- Such a byte stands for itself without an error.
 pub reference-plain : (b : ℕ) → inReference b ≡ true → Plain b
 unfolding stands
-reference-plain b e = plain-is b (rw e at (below-at 0x80 stands b all-stand (passes-ascii inReference reference-ascii b e)))
+reference-plain b e = standing-is b (rw e at (below-at 0x80 stands b all-stand (passes-ascii inReference reference-ascii b e)))
 
 -- `#` and that letter stand for themselves.
 pub x-plain : (letter : ℕ) → is-x letter ≡ true → All Plain (code "#" ∷ letter ∷ [])

@@ -18,11 +18,11 @@ use Rattle.standard.proofs.Ascii.{Plain}
 use Rattle.standard.proofs.Choice.{no-way, and-true, or-true, between-true}
 use Rattle.standard.proofs.Computing.{computing}
 use Rattle.standard.proofs.Lists.{below, below-at}
-use Rattle.decoder.specs.Runs.{plain, endOf, ordinary}
+use Rattle.decoder.specs.Runs.{standing, plain, endOf, ordinary}
 
--- A plain byte is ASCII.
-plain-ascii : (b : ℕ) → plain b ≡ true → b < 0x80
-plain-ascii b e = go (or-true (between 0x20 0x7E b && not (eqb b (code "&")) || eqb b 0xA) (eqb b 0x9) e)
+-- A byte that stands for itself is ASCII.
+standing-ascii : (b : ℕ) → standing b ≡ true → b < 0x80
+standing-ascii b e = go (or-true (between 0x20 0x7E b && not (eqb b (code "&")) || eqb b 0xA) (eqb b 0x9) e)
   where
     print : (between 0x20 0x7E b && not (eqb b (code "&"))) ≡ true → b < 0x80
     print f = omega (arith, between-true 0x20 0x7E b (and-true (between 0x20 0x7E b) (not (eqb b (code "&"))) f .0))
@@ -31,23 +31,27 @@ plain-ascii b e = go (or-true (between 0x20 0x7E b && not (eqb b (code "&")) || 
     go (inl f) = ⊎-elim print (λ g. omega (arith, eqb-true b 0xA g)) (or-true (between 0x20 0x7E b && not (eqb b (code "&"))) (eqb b 0xA) f)
     go (inr f) = omega (arith, eqb-true b 0x9 f)
 
--- What a plain byte is not: computed for each ASCII byte.
+-- What such a byte is not: computed for each ASCII byte.
 stands : ℕ → Bool
-stands b = not (plain b) || (not (eqb b (code "\r")) && not (eqb b (code "&")) && eqb (characterCode b) 0)
+stands b = not (standing b) || (not (eqb b (code "\r")) && not (eqb b (code "&")) && eqb (characterCode b) 0)
 
 all-stand : below 0x80 stands ≡ true
 unfolding computing below stands
 all-stand = refl
 
--- A plain byte stands for itself without an error.
-pub plain-is : (b : ℕ) → plain b ≡ true → Plain b
+-- It stands for itself without an error.
+pub standing-is : (b : ℕ) → standing b ≡ true → Plain b
 unfolding stands
-plain-is b e =
-    let h = plain-ascii b e in
+standing-is b e =
+    let h = standing-ascii b e in
     let w = rw e at (below-at 0x80 stands b all-stand h) in
     let u = and-true (not (eqb b (code "\r")) && not (eqb b (code "&"))) (eqb (characterCode b) 0) w in
     let v = and-true (not (eqb b (code "\r"))) (not (eqb b (code "&"))) (u .0) in
     (h, not-true (eqb b (code "\r")) (v .0), not-true (eqb b (code "&")) (v .1), eqb-true (characterCode b) 0 (u .1))
+
+-- So does a plain byte.
+pub plain-is : (end b : ℕ) → plain end b ≡ true → Plain b
+plain-is end b e = standing-is b (and-true (standing b) (not (eqb b end)) e .0)
 
 -- A source ends before its end.
 ends-is : (context : Context) (b : ℕ) → ends context b ≡ eqb b (endOf context)
@@ -68,3 +72,12 @@ ordinary-is context b e =
     let w = and-true (between 0x1 0x7F b) (not (eqb b (endOf context))) e in
     let h = between-true 0x1 0x7F b (w .0) in
     (omega arith, calls-none context b (omega arith) (eqb-false b (endOf context) (not-true (eqb b (endOf context)) (w .1))))
+
+-- A plain byte is ASCII and calls for nothing.
+pub plain-calls : (context : Context) (b : ℕ) → plain (endOf context) b ≡ true → (b < 0x80) × (callsFor context b ≡ done)
+plain-calls context b e =
+    let w = and-true (standing b) (not (eqb b (endOf context))) e in
+    let h = standing-ascii b (w .0) in (
+      h,
+      calls-none context b (λ i. no-way (sym (w .0) ∙ ap standing i)) (eqb-false b (endOf context) (not-true (eqb b (endOf context)) (w .1))),
+    )

@@ -45,7 +45,7 @@ use Rattle.decoder.specs.Stream.{
   atOf,
 }
 use Rattle.decoder.specs.Turns.{Fits}
-use Rattle.decoder.specs.Feeding.{OpenAt, Open, byteWalk, Walks, Bounded}
+use Rattle.decoder.specs.Feeding.{OpenAt, Open, byteWalk, Walks, Bounded, Moves}
 use Rattle.decoder.proofs.Keeps.{step-fits}
 use Rattle.decoder.proofs.Open.{at-back}
 use Rattle.decoder.proofs.Walks.{walkAfter, walk-on, walk-stops, walk-one, walk-full}
@@ -262,6 +262,18 @@ module _ {start : Stream} {chunk text₀ errors₀ : List ℕ} where
       text-few = text-few;
       errors-few = errors-few;
     }
+
+    -- The bytes that a walk from here took.
+    pub taken-moves : {r′ : Stream} {at′ w′ e′ : ℕ} {text′ errors′ : List ℕ} → Moves r chunk at text w errors e r′ at′ text′ w′ errors′ e′
+        → Taken start chunk text₀ errors₀ r′ at′ text′ w′ errors′ e′
+    taken-moves {r′} {at′} {w′} {e′} {text′} {errors′} m =
+        let on = m .onward in
+        let is : at + (at′ - at) ≡ at′ = omega (arith, on) in
+        let same = ap₂ (λ (c : Context) (a : At). walk builtin c (length text - w) (length errors - e) a (take (at′ - at) (drop at chunk))) taken-context taken-at in
+        subst (λ (n : ℕ). Taken start chunk text₀ errors₀ r′ n text′ w′ errors′ e′) is
+        (taken-more (at′ - at) (m .gives) (m .here) (omega (arith, m .there)) (sym same ∙ m .walked) (m .opened)
+        (omega (arith, m .taken-is, taken-count)) (m .recorded ∙ ap (λ (c : Context). recordOf c (m .here)) taken-context) (m .wrote) (m .text-in)
+        (m .errors-in) (omega (arith, m .text-few, g .text-few)) (omega (arith, m .errors-few, g .errors-few)))
 
     -- The walk ends here.
     pub taken-ends : {x : code.Walked} {text′ errors′ : List ℕ} (a : ℕ) (gives : Reading) (stop : At)

@@ -110,6 +110,14 @@ module _ (names : List Name) (context : Context) where
           (walkAfter (x .gives) (text - length (m .gives .text)) (errors - 2 * length (m .gives .errors)) (x .stop) t)
           ∙ ap (onward (m .gives ⊕ x .gives)) (left-twice (m .gives) (x .gives) text errors (x .stop) t)
 
+  -- Two walks that take all of their bytes are one.
+  pub walk-more : (text errors : ℕ) (at : At) (s t : List ℕ) {g h : Reading} {here there : At}
+      → walk names context text errors at s ≡ stopsAt done g here → walkAfter g text errors here t ≡ stopsAt done h there
+      → walk names context text errors at (s ++ t) ≡ stopsAt done (g ⊕ h) there
+  walk-more text errors at s t {g} first second =
+      walk-on text errors at s t (ap (λ (w : Walked). w .answer) first)
+      ∙ ap (λ (w : Walked). onward (w .gives) (walkAfter (w .gives) text errors (w .stop) t)) first ∙ ap (onward g) second
+
   -- Where one of the first bytes is not taken nothing after it is looked at.
   pub walk-stops : (text errors : ℕ) (at : At) (s t : List ℕ) → walk names context text errors at s .answer ≢ done
       → walk names context text errors at (s ++ t) ≡ walk names context text errors at s

@@ -1,16 +1,17 @@
 -- What a walk of the code over bytes comes to, as the definition's walk does.
-use Prim.Native.Nat.{ℕ, suc, _*_, _≤_}
+use Prim.Native.Nat.{ℕ, suc, _+_, _-_, _*_, _≤_}
 use mathlib.Core.Path.{_≡_}
 use mathlib.Core.List.{List, [], _∷_, _++_}
 use mathlib.Core.Bool.{true, not}
 use lib.Dec.{eqb}
-use lib.ListN.{length}
+use lib.ListN.{length, take, drop}
 use Rattle.standard.specs.declared.Context.{Context}
 use Rattle.standard.specs.Notation.{if_then_else_}
 use Rattle.standard.specs.Utf8.{readChar}
 use Rattle.standard.specs.Answers.{done}
 use Rattle.standard.specs.Names.{Name}
-use Rattle.standard.specs.Reading.{callsFor}
+use Rattle.standard.specs.NameList.{builtin}
+use Rattle.standard.specs.Reading.{callsFor, Reading}
 use Rattle.standard.specs.Rooms.{Wrote}
 use Rattle.decoder.specs.declared.feeding.Walked.{Walked}
 use Rattle.decoder.specs.declared.stream.Stream.{Stream}
@@ -60,3 +61,21 @@ pub record Bounded (start : Stream) (n : ℕ) (r : Walked) : Type 0 where
   pub errors-few : r .errors ≤ 8 * n
   pub onward : start .taken ≤ r .«record» .taken
   pub there : r .«record» .«part_count» ≤ r .«record» .taken
+
+-- A walk from a record over the bytes of s from `from` to at took all of them, and what it gave was written.
+pub record Moves (r : Stream) (s : List ℕ) (from : ℕ) (text : List ℕ) (w : ℕ) (errors : List ℕ) (e : ℕ) (r′ : Stream) (at : ℕ) (text′ : List ℕ) (w′ : ℕ)
+    (errors′ : List ℕ) (e′ : ℕ) : Type 0 where
+  pub onward : from ≤ at
+  pub there : at ≤ length s
+  pub here : spec.At
+  pub gives : Reading
+  pub walked : spec.walk builtin (r .context) (length text - w) (length errors - e) (spec.atOf r) (take (at - from) (drop from s))
+      ≡ spec.stopsAt done gives here
+  pub opened : OpenAt here
+  pub taken-is : here .taken ≡ r .taken + (at - from)
+  pub recorded : r′ ≡ spec.recordOf (r .context) here
+  pub wrote : Wrote gives text w text′ w′ errors e errors′ e′
+  pub text-in : w′ ≤ length text′
+  pub errors-in : e′ ≤ length errors′
+  pub text-few : w′ ≤ w + 64 * (at - from)
+  pub errors-few : e′ ≤ e + 8 * (at - from)

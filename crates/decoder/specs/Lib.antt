@@ -6,3 +6,4 @@ pub mod Held
 pub mod Stream
 pub mod Turns
 pub mod Feeding
+pub mod Skims

@@ -8,8 +8,12 @@ use Rattle.standard.specs.declared.Context.the-variants.{Text, Attribute}
 use Rattle.standard.specs.Notation.{between}
 
 -- A byte that is a character of its own, stands for itself and has no error: printable ASCII but `&`, and LF and tab.
-abbrev pub plain : ℕ → Bool
-plain b = (between 0x20 0x7E b && not (eqb b (code "&"))) || eqb b 0xA || eqb b 0x9
+abbrev pub standing : ℕ → Bool
+standing b = (between 0x20 0x7E b && not (eqb b (code "&"))) || eqb b 0xA || eqb b 0x9
+
+-- The same, where a source ends before end.
+abbrev pub plain : ℕ → ℕ → Bool
+plain end b = standing b && not (eqb b end)
 
 -- The character before which a source ends.
 abbrev pub endOf : Context → ℕ

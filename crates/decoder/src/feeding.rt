@@ -1,4 +1,4 @@
-// The bytes of a chunk: characters are read and met one by one.
+// The bytes of a chunk: they are skimmed where nothing is held, and else met one by one.
 ghost use mathlib.Core.Path.{_≡_};
 ghost use Prim.Native.Nat.{_≤_, _<_, _+_};
 ghost use lib.ListN.{length, take};
@@ -11,11 +11,14 @@ ghost use Rattle.decoder.specs.Machine as machine;
 ghost use Rattle.decoder.specs.Pieces.{pieceOf};
 ghost use Rattle.decoder.specs.Stream as spec;
 ghost use Rattle.decoder.specs.Turns.{Fit, releasedOf};
-ghost use Rattle.decoder.specs.Feeding.{Open, charWalk, byteWalk, Walks, Bounded};
+ghost use Rattle.decoder.specs.Feeding.{Open, charWalk, byteWalk, Walks, Bounded, Moves};
 use crate::pieces::Piece;
+use crate::skimming::skim;
 use crate::stops::calls_for;
 use crate::stream::Held;
+use crate::stream::State;
 use crate::stream::Stream;
+use crate::turns::data;
 use crate::turns::finish;
 use crate::turns::step;
 use crate::writers::Written;
@@ -247,6 +250,65 @@ fn take_byte(
     }
 }
 
+// How far a chunk was read, with the record there and the places after what was written.
+struct Ahead {
+    record: Stream,
+    at: usize,
+    text: usize,
+    errors: usize,
+}
+
+// Where nothing is held, the chunk from `at` on as far as it can be skimmed.
+fn skim_on(
+    record: Stream,
+    chunk: &[u8],
+    at: usize,
+    text: &mut [u8],
+    w: usize,
+    errors: &mut [u32],
+    e: usize,
+) -> Ahead
+    requires { ⌜ Open «record» × (at ≤ «record» .taken) × («record» .taken + length (now chunk) ≤ 16777216 + at) × (at ≤ length (now chunk))
+        × (w ≤ length (now text)) × (e ≤ length (now errors)) ⌝ }
+    ensures { λ r. ⌜ Moves «record» (now (chunk .entry)) at (now (text .entry)) w (now (errors .entry)) e
+        (r .«record») (r .at) (now (text .exit)) (r .text) (now (errors .exit)) (r .errors) ⌝ }
+{
+    let context = record.context;
+    let held = record.held;
+    let state = held.state;
+    let State::Data = state else {
+        return Ahead {
+            record,
+            at,
+            text: w,
+            errors: e,
+        };
+    };
+    if record.part_count != 0 {
+        return Ahead {
+            record,
+            at,
+            text: w,
+            errors: e,
+        };
+    }
+    let before = record.taken - at as u32;
+    let skimmed = skim(context, before, chunk, at, text, w, errors, e);
+    let end = skimmed.at;
+    Ahead {
+        record: Stream {
+            context,
+            held: data(),
+            part: [0u8; 3],
+            part_count: 0,
+            taken: before + end as u32,
+        },
+        at: end,
+        text: skimmed.text,
+        errors: skimmed.errors,
+    }
+}
+
 // The bytes of a chunk, from a record on.
 pub(crate) fn walk(
     table: &[u8],
@@ -266,6 +328,20 @@ pub(crate) fn walk(
     let mut w: usize = 0;
     let mut e: usize = 0;
     while at < chunk.len() {
+        let ahead = skim_on(record, chunk, at, text, w, errors, e);
+        let there = ahead.record;
+        record = there;
+        at = ahead.at;
+        w = ahead.text;
+        e = ahead.errors;
+        if at == chunk.len() {
+            return Walked {
+                answer: 0,
+                record,
+                text: w,
+                errors: e,
+            };
+        }
         if text.len() - w < 64 {
             return Walked {
                 answer: 6,

@@ -5,6 +5,7 @@ mod numbers;
 mod opening;
 mod pieces;
 mod runs;
+mod skimming;
 mod stops;
 mod stream;
 mod turns;

@@ -40,7 +40,7 @@ fn decode_pieces(
     let mut w: usize = 0;
     let mut e: usize = 0;
     while at < s.len() {
-        let from = plain_run(s, at);
+        let from = plain_run(s, at, context);
         w = rooms::copy(&s[at..from], text, w);
         if from == s.len() {
             return Written { text: w, errors: e };

@@ -10,10 +10,10 @@ use Rattle.decoder.proofs.runs.plain_block.Statement.{statement}
 use Rattle.decoder.proofs.runs.plain_block.Tie as tie
 
 abbrev Inv-loop : tie.InvT-loop
-Inv-loop s at odd₀ i₀ odd i = Counted spec.plain s at i odd × (i ≤ 32)
+Inv-loop s at end odd₀ i₀ odd i = Counted (spec.plain end) s at i odd × (i ≤ 32)
 
 abbrev μ-loop : tie.MeasureT-loop
-μ-loop s at odd₀ i₀ odd i = 32 - i
+μ-loop s at end odd₀ i₀ odd i = 32 - i
 
 loop-holds : tie.Need-loop-holds Inv-loop μ-loop
 loop-holds c = (counted-none, omega arith)

@@ -11,10 +11,10 @@ use Rattle.decoder.proofs.runs.plain_bytes.Statement.{statement}
 use Rattle.decoder.proofs.runs.plain_bytes.Tie as tie
 
 abbrev Inv-loop : tie.InvT-loop
-Inv-loop s from at₀ at = Skipping spec.plain s from at
+Inv-loop s from end at₀ at = Skipping (spec.plain end) s from at
 
 abbrev μ-loop : tie.MeasureT-loop
-μ-loop s from at₀ at = length s - at
+μ-loop s from end at₀ at = length s - at
 
 loop-holds : tie.Need-loop-holds Inv-loop μ-loop
 loop-holds c = skipping-all (c .before .pre)

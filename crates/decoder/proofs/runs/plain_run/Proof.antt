@@ -3,6 +3,7 @@ use Prim.Native.Nat.{_-_}
 use mathlib.Core.Path.{sym, _∙_}
 use native.Mathlib.Omega.{arith}
 use lib.ListN.{length}
+use borrow.Author.Needs.{needs}
 use borrow.Author.Tests.{not-false}
 use Rattle.decoder.specs.Runs as spec
 use Rattle.standard.proofs.Fronts.{Skipping, skipping-all, skipping-on, passed-block}
@@ -10,13 +11,16 @@ use Rattle.decoder.proofs.runs.plain_run.Statement.{statement}
 use Rattle.decoder.proofs.runs.plain_run.Tie as tie
 
 abbrev Inv-loop : tie.InvT-loop
-Inv-loop s from at₀ at = Skipping spec.plain s from at
+Inv-loop s from end at₀ at = Skipping (spec.plain end) s from at
 
 abbrev μ-loop : tie.MeasureT-loop
-μ-loop s from at₀ at = length s - at
+μ-loop s from end at₀ at = length s - at
+
+end-of-requires : tie.Need-end-of-requires Inv-loop μ-loop
+end-of-requires c κs = search needs
 
 loop-holds : tie.Need-loop-holds Inv-loop μ-loop
-loop-holds c = skipping-all (c .before .pre)
+loop-holds c = skipping-all (c .before .before .pre)
 
 sub-loop : tie.Need-sub-loop Inv-loop μ-loop
 sub-loop c = omega arith
@@ -29,7 +33,8 @@ plain-bytes-requires c κs = omega arith
 
 returns : tie.Need-returns Inv-loop μ-loop
 returns c =
-    c .plain-bytes .ensures ∙ sym (c .before .before .before .before .loop .inv .same-end)
+    let l = c .before .before .before .before in
+    rw (l .before .end-of .ensures) at (c .plain-bytes .ensures ∙ sym (l .loop .inv .same-end))
 
 add-at : tie.Need-add-at Inv-loop μ-loop
 add-at c = omega arith
@@ -47,7 +52,8 @@ plain-bytes-requires-2 c κs = omega arith
 
 returns-2 : tie.Need-returns-2 Inv-loop μ-loop
 returns-2 c =
-    c .plain-bytes2 .ensures ∙ sym (c .before .before .loop .inv .same-end)
+    let l = c .before .before in
+    rw (l .before .end-of .ensures) at (c .plain-bytes2 .ensures ∙ sym (l .loop .inv .same-end))
 
 pub plain-run-spec : {M : Type 1} → statement M
 plain-run-spec =
@@ -55,6 +61,7 @@ plain-run-spec =
     (tie.spec
     Inv-loop
     μ-loop
+    end-of-requires
     loop-holds
     sub-loop
     plain-block-requires

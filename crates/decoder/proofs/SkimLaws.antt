@@ -1,0 +1,303 @@
+-- Laws of what is skimmed: runs of plain bytes and characters that stand for themselves, through the walk with nothing held.
+use Prim.Native.Nat.{ℕ, suc, _+_, _-_, _*_, _≤_, min}
+use Prim.Native.Char.{code}
+use mathlib.Core.Path.{_≡_, refl, sym, _∙_, ap, ap₂, subst}
+use mathlib.Core.List.{List, [], _∷_, _++_, append-nil}
+use mathlib.Core.Bool.{Bool, true, false}
+use mathlib.Core.Logic.{_≢_, _⊎_, inl, inr}
+use native.Mathlib.Omega.{arith}
+use lib.Dec.{eqb}
+use lib.ListN.{length, take, drop, length-append, length-take, length-drop, drop-of-length-le}
+use lib.Seq.{length-take-le, take-all, take-add, take-take, drop-at, drop-drop}
+use borrow.Author.Tests.{le-ltb, ne-eqb}
+use Rattle.standard.specs.declared.Context.{Context}
+use Rattle.standard.specs.declared.characters.CharRead.the-variants.{Char}
+use Rattle.standard.specs.Notation.{if_then_else_, front, every}
+use Rattle.standard.specs.Utf8.{readChar}
+use Rattle.standard.specs.Answers.{done}
+use Rattle.standard.specs.Classes.{characterCode}
+use Rattle.standard.specs.Errors.{listed, placed}
+use Rattle.standard.specs.NameList.{builtin}
+use Rattle.standard.specs.Pieces as standard
+use Rattle.standard.specs.Pieces.{character}
+use Rattle.standard.specs.Reading.{callsFor, Reading, reading, readingAt, _⊕_}
+use Rattle.standard.specs.Rooms.{Put, Wrote}
+use Rattle.standard.proofs.Ascii.{read-ascii}
+use Rattle.standard.proofs.Choice.{and-true}
+use Rattle.standard.proofs.Fronts.{front-is-take, front-length}
+use Rattle.standard.proofs.Puts.{⊕-none, wrote-none, wrote-text, wrote-join, put-length, numbers-length}
+use Rattle.standard.proofs.Utf8.{read-end, read-length, read-take}
+use Rattle.decoder.specs.declared.pieces.Piece.{Piece}
+use Rattle.decoder.specs.declared.stream.State.the-variants as kind
+use Rattle.decoder.specs.declared.stream.Held.{Held}
+use Rattle.decoder.specs.declared.stream.Stream.{Stream}
+use Rattle.decoder.specs.Machine.{Data, Step, nothing, stepData, step}
+use Rattle.decoder.specs.Pieces.{pieceOf, oneOf}
+use Rattle.decoder.specs.Runs.{plain, endOf}
+use Rattle.decoder.specs.Stream.{At, atBy, Walked, stopsAt, onward, lacksRoom, walk, isPart, stBy, heldOf, recordOf, atOf}
+use Rattle.decoder.specs.Turns.{Fits}
+use Rattle.decoder.specs.Feeding.{OpenAt, Open, Moves}
+use Rattle.decoder.specs.Skims.{Runs, Stands, Alone, Skims}
+use Rattle.decoder.proofs.PieceLaws.{character-read}
+use Rattle.decoder.proofs.Quiet.{plain-is, plain-calls}
+use Rattle.decoder.proofs.Walks.{walk-more, walk-char}
+
+-- Room for a byte.
+roomy : (text errors : ℕ) → 64 ≤ text → 8 ≤ errors → lacksRoom text errors ≡ false
+roomy text errors h k = rw (le-ltb text 64 h, le-ltb errors 8 k)
+
+-- What a step with nothing held comes to, with the walk after it.
+abbrev stepped : Context → (text errors p c k : ℕ) (own rest : List ℕ) → Walked
+stepped context text errors p c k own rest =
+    let t : Step = step builtin context Data p c own in
+    onward (t .gives) (walk builtin context (text - length (t .gives .text)) (errors - 2 * length (t .gives .errors)) (atBy (t .next) [] k) rest)
+
+module _ (context : Context) where
+  -- A character that stands for itself, alone and with nothing held.
+  walk-alone : (text errors p c n : ℕ) (s : List ℕ) → 64 ≤ text → 8 ≤ errors → readChar s ≡ Char c n → callsFor context c ≡ done
+      → eqb c (code "\r") ≡ false → eqb c (code "&") ≡ false
+      → walk builtin context text errors (atBy Data [] p) (take n s)
+      ≡ stopsAt done (reading (take n s) (placed p (listed (characterCode c)))) (atBy Data [] (p + n))
+  unfolding walk step stepData
+  walk-alone text errors p c n s h k read calls no-cr no-ampersand =
+      let some = read-length s c n read in
+      let own = read-take s c n read in
+      let long : length (take n s) ≡ n = length-take-le n s (some .2) in
+      let all : length (take n s) ≤ n = omega (arith, long) in
+      walk-char builtin context text errors (roomy text errors h k) Data [] p c n (take n s) own (omega (arith, some)) calls
+      ∙ ap₂ (λ (q m : ℕ). stepped context text errors q c (p + m) (take n (take n s)) (drop m (take n s)))
+      (let i : p - 0 ≡ p = omega arith in i) (let i : n - 0 ≡ n = omega arith in i)
+      ∙ ap₂ (λ (own rest : List ℕ). stepped context text errors p c (p + n) own rest) (take-all n (take n s) all)
+      (drop-of-length-le (take n s) all)
+      ∙ rw (no-cr, no-ampersand)
+      (ap (λ (g : Reading). stopsAt done g (atBy Data [] (p + n))) (⊕-none (reading (take n s) (placed p (listed (characterCode c))))))
+
+  -- A run of plain bytes gives itself.
+  walk-plain : (text errors p : ℕ) (l : List ℕ) → every (plain (endOf context)) l ≡ true → length l + 63 ≤ text → 8 ≤ errors
+      → walk builtin context text errors (atBy Data [] p) l ≡ stopsAt done (reading l []) (atBy Data [] (p + length l))
+  unfolding walk placed
+  walk-plain text errors p [] e h k = ap (λ (n : ℕ). stopsAt done nothing (atBy Data [] n)) (omega arith)
+  walk-plain text errors p (b ∷ l) e h k =
+      let w = and-true (plain (endOf context) b) (every (plain (endOf context)) l) e in
+      let q = plain-is (endOf context) b (w .0) in
+      let c = plain-calls context b (w .0) in
+      let first =
+      walk-alone text errors p b 1 (b ∷ l) (omega arith) k (read-ascii b l (c .0)) (c .1) (q .1) (q .2)
+      ∙ ap (λ (x : ℕ). stopsAt done (reading (b ∷ []) (placed p (listed x))) (atBy Data [] (p + 1))) (q .3) in
+      walk-more builtin context text errors (atBy Data [] p) (b ∷ []) l first
+      (walk-plain (text - 1) (errors - 0) (p + 1) l (w .1) (omega arith) (omega arith))
+      ∙ ap (λ (n : ℕ). stopsAt done (reading (b ∷ l) []) (atBy Data [] n)) (let i : p + 1 + length l ≡ p + suc (length l) = omega arith in i)
+
+module _ {context : Context} {before : ℕ} {s : List ℕ} {from : ℕ} {text errors : List ℕ} {w e : ℕ} where
+  -- Nothing is skimmed yet.
+  pub skims-start : from ≤ length s → w ≤ length text → e ≤ length errors
+      → Skims context before s from from text w text w errors e errors e
+  unfolding walk
+  skims-start there text-in errors-in = record {
+    onward = omega arith;
+    there = there;
+    gives = nothing;
+    walked =
+        ap (λ (n : ℕ). walk builtin context (length text - w) (length errors - e) (atBy Data [] (before + from)) (take n (drop from s)))
+        (let i : from - from ≡ 0 = omega arith in i);
+    wrote = wrote-none text w errors e;
+    text-in = text-in;
+    errors-in = errors-in;
+    text-few = omega arith;
+    errors-few = omega arith;
+  }
+
+  module _ {at w′ e′ : ℕ} {text′ errors′ : List ℕ} (g : Skims context before s from at text w text′ w′ errors e errors′ e′) where
+    -- Some bytes more.
+    skims-on : {text″ errors″ : List ℕ} {w″ e″ : ℕ} (k : ℕ) (h : Reading) → at + k ≤ length s
+        → walk builtin context (length text′ - w′) (length errors′ - e′) (atBy Data [] (before + at)) (take k (drop at s))
+        ≡ stopsAt done h (atBy Data [] (before + (at + k)))
+        → Wrote h text′ w′ text″ w″ errors′ e′ errors″ e″ → w″ ≤ length text″ → e″ ≤ length errors″ → w″ ≤ w′ + 64 * k → e″ ≤ e′ + 8 * k
+        → Skims context before s from (at + k) text w text″ w″ errors e errors″ e″
+    skims-on {text″} {errors″} {w″} {e″} k h there second wrote text-in errors-in text-few errors-few = record {
+      onward = omega (arith, g .onward);
+      there = there;
+      gives = g .gives ⊕ h;
+      walked =
+          ap (walk builtin context (length text - w) (length errors - e) (atBy Data [] (before + from))) split
+          ∙ walk-more builtin context (length text - w) (length errors - e) (atBy Data [] (before + from)) (take (at - from) (drop from s))
+          (take k (drop at s)) (g .walked)
+          (ap₂ (λ (t n : ℕ). walk builtin context t n (atBy Data [] (before + at)) (take k (drop at s)))
+          (let i : length text - w - length (g .gives .text) ≡ length text′ - w′ =
+          omega (arith, g .wrote .texts .next-is, put-length (g .wrote .texts)) in i)
+          (let i : length errors - e - 2 * length (g .gives .errors) ≡ length errors′ - e′ =
+          omega (arith, g .wrote .numbers-of .next-is, numbers-length (g .gives .errors), put-length (g .wrote .numbers-of)) in i)
+          ∙ second);
+      wrote = wrote-join (g .wrote) wrote;
+      text-in = text-in;
+      errors-in = errors-in;
+      text-few = omega (arith, g .text-few, g .onward);
+      errors-few = omega (arith, g .errors-few, g .onward);
+    }
+      where
+        split : take (at + k - from) (drop from s) ≡ take (at - from) (drop from s) ++ take k (drop at s)
+        split =
+            let on = g .onward in
+            ap (λ (n : ℕ). take n (drop from s)) (let i : at + k - from ≡ at - from + k = omega (arith, on) in i)
+            ∙ take-add (at - from) k (drop from s)
+            ∙ ap (λ (l : List ℕ). take (at - from) (drop from s) ++ take k l)
+            (drop-drop (at - from) from s ∙ ap (λ (n : ℕ). drop n s) (let i : from + (at - from) ≡ at = omega (arith, on) in i))
+
+    -- A run is copied.
+    pub skims-run : {text″ : List ℕ} {w″ : ℕ} (end : ℕ) → 8 ≤ length errors′ - e′ → Runs context s at (length text′ - w′) end
+        → Put text′ w′ (take (end - at) (drop at s)) text″ w″ → Skims context before s from end text w text″ w″ errors e errors′ e′
+    skims-run {text″} {w″} end room run put =
+        let k : ℕ = end - at in
+        let there = run .there in
+        let onward = run .from in
+        let long : length (take k (drop at s)) ≡ k = length-take-le k (drop at s) (simp length-drop (omega arith)) in
+        let is : at + k ≡ end = omega arith in
+        subst (λ (n : ℕ). Skims context before s from n text w text″ w″ errors e errors′ e′) is
+        (skims-on k (reading (take k (drop at s)) []) (omega arith)
+        (walk-plain context (length text′ - w′) (length errors′ - e′) (before + at) (take k (drop at s)) (run .plains)
+        (omega (arith, long, run .fits)) room
+        ∙ ap (λ (n : ℕ). stopsAt done (reading (take k (drop at s)) []) (atBy Data [] n)) (omega (arith, long)))
+        (wrote-text errors′ e′ put) (omega (arith, put .next-is, put-length put, long, run .fits)) (g .errors-in)
+        (omega (arith, put .next-is, long)) (omega arith))
+
+    -- A character is written.
+    pub skims-alone : {text″ errors″ : List ℕ} {w″ e″ : ℕ} (p : Piece) → 64 ≤ length text′ - w′ → 8 ≤ length errors′ - e′
+        → Stands context (drop at s) p → Wrote (readingAt (before + at) (pieceOf p)) text′ w′ text″ w″ errors′ e′ errors″ e″ → w″ ≤ w′ + 8 → e″ ≤ e′ + 4
+        → Skims context before s from (at + p .size) text w text″ w″ errors e errors″ e″
+    skims-alone {text″} {errors″} {w″} {e″} p text-room errors-room a wrote text-few errors-few =
+        let some = read-length (drop at s) (a .char) (a .size) (a .read) in
+        let size-is : p .size ≡ a .size = ap (λ (x : Piece). x .size) (a .piece-is) in
+        let own = take (a .size) (drop at s) in
+        let piece-is : pieceOf p ≡ character (readChar (drop at s)) (drop at s) =
+        ap pieceOf (a .piece-is) ∙ character-read (drop at s) (a .read) refl in
+        let wrote-own =
+        subst (λ (q : standard.Piece). Wrote (readingAt (before + at) q) text′ w′ text″ w″ errors′ e′ errors″ e″)
+        (piece-is ∙ ap (λ r. character r (drop at s)) (a .read)) wrote in
+        rw size-is
+        (skims-on (a .size) (reading own (placed (before + at) (listed (characterCode (a .char))))) (omega (arith, some, length-drop at s))
+        (walk-alone context (length text′ - w′) (length errors′ - e′) (before + at) (a .char) (a .size) (drop at s) text-room errors-room (a .read)
+        (a .calls) (a .no-cr) (a .no-ampersand)
+        ∙ ap (λ (n : ℕ). stopsAt done (reading own (placed (before + at) (listed (characterCode (a .char))))) (atBy Data [] n)) (omega arith))
+        wrote-own (omega (arith, put-length (wrote .texts))) (omega (arith, put-length (wrote .numbers-of))) (omega (arith, some))
+        (omega (arith, some)))
+
+    -- The room that is left.
+    pub skims-room : (length text′ ≡ length text) × (length errors′ ≡ length errors)
+    skims-room = (put-length (g .wrote .texts), put-length (g .wrote .numbers-of))
+
+-- Where nothing is held a stream is open.
+open-data : (n : ℕ) → OpenAt (atBy Data [] n)
+unfolding Fits
+open-data n = record { fits = tt; few = omega arith; begun = ap isPart (read-end [] refl); there = omega arith }
+
+-- A walk over no bytes.
+pub moves-none : (r : Stream) → Open r → {s text errors : List ℕ} {at w e : ℕ} → at ≤ length s → w ≤ length text → e ≤ length errors
+    → Moves r s at text w errors e r at text w errors e
+unfolding walk
+moves-none r o {s} {text} {errors} {at} {w} {e} there text-in errors-in =
+    let none : at - at ≡ 0 = omega arith in record {
+      onward = omega arith;
+      there = there;
+      here = atOf r;
+      gives = nothing;
+      walked = ap (λ (n : ℕ). walk builtin (r .context) (length text - w) (length errors - e) (atOf r) (take n (drop at s))) none;
+      opened = o .at;
+      taken-is = omega arith;
+      recorded = o .whole;
+      wrote = wrote-none text w errors e;
+      text-in = text-in;
+      errors-in = errors-in;
+      text-few = omega arith;
+      errors-few = omega arith;
+    }
+
+-- What was skimmed, as a walk from a record with nothing held.
+pub moves-skim : (r : Stream) → r .held .state ≡ kind.Data → r .«part_count» ≡ 0 → {s text errors text′ errors′ : List ℕ} {at end w e w′ e′ before : ℕ}
+    → before ≡ r .taken - at → at ≤ r .taken → Skims (r .context) before s at end text w text′ w′ errors e errors′ e′ → {nothing-held : Held}
+    → nothing-held ≡ heldOf Data
+    → Moves r s at text w errors e
+    (record { context = r .context; held = nothing-held; part = 0 ∷ 0 ∷ 0 ∷ []; «part_count» = 0; taken = before + end }) end text′ w′ errors′ e′
+unfolding recordOf stBy
+moves-skim r state count {s} {text} {errors} {at = at} {end} {w} {e} {before = before} before-is there k is = record {
+  onward = k .onward;
+  there = k .there;
+  here = atBy Data [] (before + end);
+  gives = k .gives;
+  walked = ap (λ (a : At). walk builtin (r .context) (length text - w) (length errors - e) a (take (end - at) (drop at s))) here ∙ k .walked;
+  opened = open-data (before + end);
+  taken-is = omega (arith, k .onward);
+  recorded = rw is;
+  wrote = k .wrote;
+  text-in = k .text-in;
+  errors-in = k .errors-in;
+  text-few = k .text-few;
+  errors-few = k .errors-few;
+}
+  where
+    here : atOf r ≡ atBy Data [] (before + at)
+    here = rw (state, count) (ap (λ (n : ℕ). atBy Data [] n) (let i : r .taken ≡ before + at = omega arith in i))
+
+-- The front of a list passes its test.
+front-every : (p : ℕ → Bool) (s : List ℕ) → every p (front p s) ≡ true
+unfolding front
+front-every p [] = refl
+front-every p (c ∷ s) = go (p c) refl (front-every p s)
+  where
+    go : (t : Bool) → p c ≡ t → every p (front p s) ≡ true → every p (if t then c ∷ front p s else []) ≡ true
+    go true e later = rw e later
+    go false e later = refl
+
+-- Plain bytes from at on, of as many as have their room.
+pub run-runs : (context : Context) (s : List ℕ) (at free : ℕ) → at ≤ length s → 64 ≤ free → {limit end : ℕ} → limit ≡ min (length s - at) (free - 63)
+    → end ≡ at + length (front (plain (endOf context)) (drop at (take (at + limit) s))) → Runs context s at free end
+run-runs context s at free there room {limit} {end} limit-is end-is =
+    let few = front-length p l in
+    let short = length-drop at (take (at + limit) s) in
+    let few-more = length-take (at + limit) s in record {
+      from = omega arith;
+      there = omega (arith, few, short, few-more);
+      fits = omega (arith, few, short, few-more);
+      plains = ap (every p) same ∙ front-every p l;
+    }
+  where
+    p : ℕ → Bool
+    p = plain (endOf context)
+
+    l : List ℕ
+    l = drop at (take (at + limit) s)
+
+    -- What stands there is the front of it.
+    same : take (end - at) (drop at s) ≡ front p l
+    same =
+        let cut : l ≡ take limit (drop at s) =
+        ap (drop at) (take-add at limit s) ∙ drop-at (take at s) (take limit (drop at s)) at (length-take-le at s there) in
+        let few = front-length p l in
+        let n = length (front p l) in
+        let small : n ≤ limit = omega (arith, few, ap length cut, length-take limit (drop at s)) in
+        ap (λ (k : ℕ). take k (drop at s)) (let i : end - at ≡ n = omega arith in i)
+        ∙ sym (take-take n limit (drop at s) small) ∙ ap (take n) (sym cut) ∙ sym (front-is-take p l)
+
+-- A run is as long as it says.
+pub run-length : {context : Context} {s : List ℕ} {at free end : ℕ} → Runs context s at free end → length (take (end - at) (drop at s)) + 63 ≤ free
+run-length {s = s} {at} {free} {end} r =
+    let there = r .there in
+    let from = r .from in
+    omega (arith, r .fits, length-take-le (end - at) (drop at s) (simp length-drop (omega arith)))
+
+-- A character that was read and calls for nothing, as a piece.
+pub stands-alone : {context : Context} {s : List ℕ} {c n error : ℕ} {p : Piece} → readChar s ≡ Char c n → callsFor context c ≡ done
+    → c ≢ code "\r" → c ≢ code "&" → error ≡ characterCode c → p ≡ oneOf n c error 0 → Stands context s p
+stands-alone {c = c} {n} read calls no-cr no-ampersand error-is is = record {
+  char = c;
+  size = n;
+  read = read;
+  calls = calls;
+  no-cr = ne-eqb c (code "\r") no-cr;
+  no-ampersand = ne-eqb c (code "&") no-ampersand;
+  piece-is = is ∙ ap (λ (x : ℕ). oneOf n c x 0) error-is;
+}
+
+-- A piece that has bytes is such a character.
+pub alone-stands : {context : Context} {s : List ℕ} (p : Piece) → Alone context s p → p .size ≢ 0 → Stands context s p
+alone-stands p (inl none) some = absurd (some (ap (λ (x : Piece). x .size) none))
+alone-stands p (inr a) some = a

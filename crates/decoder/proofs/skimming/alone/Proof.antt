@@ -1,0 +1,54 @@
+use mathlib.Core.Path.{sym, _∙_}
+use mathlib.Core.Logic.{inl, inr}
+use borrow.Author.Needs.{needs}
+use borrow.Author.Tests.{ne-eqb}
+use Rattle.decoder.proofs.SkimLaws.{stands-alone}
+use Rattle.decoder.proofs.skimming.alone.Statement.{statement}
+use Rattle.decoder.proofs.skimming.alone.Tie as tie
+
+read-char-requires : tie.Need-read-char-requires
+read-char-requires c κs = search needs
+
+enum-known-value : tie.Need-enum-known-value
+enum-known-value c = search needs
+
+none-requires : tie.Need-none-requires
+none-requires c κs = search needs
+
+returns : tie.Need-returns
+returns c = inl (c .none .ensures)
+
+none-requires-2 : tie.Need-none-requires-2
+none-requires-2 c κs = search needs
+
+returns-2 : tie.Need-returns-2
+returns-2 c = inl (c .none2 .ensures)
+
+none-requires-3 : tie.Need-none-requires-3
+none-requires-3 c κs = search needs
+
+returns-3 : tie.Need-returns-3
+returns-3 c = inl (c .none3 .ensures)
+
+calls-for-requires : tie.Need-calls-for-requires
+calls-for-requires c κs = search needs
+
+none-requires-4 : tie.Need-none-requires-4
+none-requires-4 c κs = search needs
+
+returns-4 : tie.Need-returns-4
+returns-4 c = inl (c .none4 .ensures)
+
+character-code-requires : tie.Need-character-code-requires
+character-code-requires c κs = search needs
+
+one-requires : tie.Need-one-requires
+one-requires c κs = search needs
+
+returns-5 : tie.Need-returns-5
+returns-5 c =
+    inr (stands-alone (sym (c .before .before .before .before .before .before .before .before .before .read-char .ensures) ∙ c .before .before .before .before .before .before .before .value .given .1) (sym (c .before .before .before .calls-for .ensures) ∙ c .before .before .if3 .left) (c .before .before .before .before .before .if1 .left)
+    (c .before .before .before .before .if2 .left) (c .before .character-code .ensures) (c .one .ensures))
+
+pub alone-spec : {M : Type 1} → statement M
+alone-spec = tie.close (tie.spec read-char-requires enum-known-value none-requires returns none-requires-2 returns-2 none-requires-3 returns-3 calls-for-requires none-requires-4 returns-4 character-code-requires one-requires returns-5)

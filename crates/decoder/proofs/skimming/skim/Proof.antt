@@ -1,0 +1,128 @@
+-- The invariant: the bytes so far were read with nothing held before and after, and what they give was written.
+use Prim.Native.Nat.{_-_, _≤_, _<_}
+use mathlib.Core.Path.{_≡_, _∙_}
+use native.Mathlib.Omega.{arith}
+use lib.ListN.{length, length-drop}
+use borrow.Author.Needs.{needs}
+use Rattle.standard.proofs.Puts.{put-length}
+use Rattle.standard.proofs.Skips.{rest-from}
+use Rattle.decoder.specs.Skims.{Skims, Alone}
+use Rattle.decoder.proofs.SkimLaws.{skims-start, skims-room, skims-run, skims-alone, alone-stands}
+use Rattle.decoder.proofs.skimming.skim.Statement.{statement}
+use Rattle.decoder.proofs.skimming.skim.Tie as tie
+
+abbrev Inv-loop : tie.InvT-loop
+Inv-loop context before chunk from text₀ w0 errors₀ e0 at₀ w₀ e₀ text errors at w e =
+    Skims context before chunk from at text₀ w0 text w errors₀ e0 errors e
+
+abbrev μ-loop : tie.MeasureT-loop
+μ-loop context before chunk from text₀ w0 errors₀ e0 at₀ w₀ e₀ text errors at w e = length chunk - at
+
+loop-holds : tie.Need-loop-holds Inv-loop μ-loop
+loop-holds c = let p = c .before .before .before .pre in skims-start (p .1) (p .2) (p .3)
+
+sub-if1 : tie.Need-sub-if1 Inv-loop μ-loop
+sub-if1 c = omega (arith, c .before .loop .inv .text-in)
+
+same-length : tie.Need-same-length Inv-loop μ-loop
+same-length c = skims-room (c .before .before .loop .inv) .0
+
+same-length-2 : tie.Need-same-length-2 Inv-loop μ-loop
+same-length-2 c = skims-room (c .before .before .loop .inv) .1
+
+returns : tie.Need-returns Inv-loop μ-loop
+returns c = c .before .before .loop .inv
+
+sub-if2 : tie.Need-sub-if2 Inv-loop μ-loop
+sub-if2 c = omega (arith, c .before .before .loop .inv .errors-in)
+
+same-length-3 : tie.Need-same-length-3 Inv-loop μ-loop
+same-length-3 c = skims-room (c .before .before .before .loop .inv) .0
+
+same-length-4 : tie.Need-same-length-4 Inv-loop μ-loop
+same-length-4 c = skims-room (c .before .before .before .loop .inv) .1
+
+returns-2 : tie.Need-returns-2 Inv-loop μ-loop
+returns-2 c = c .before .before .before .loop .inv
+
+copy-run-requires : tie.Need-copy-run-requires Inv-loop μ-loop
+copy-run-requires c κs = (c .before .before .before .before .loop .inv .there, omega (arith, c .before .before .before .before .loop .inv .text-in, c .before .before .if1 .left))
+
+sub-if3 : tie.Need-sub-if3 Inv-loop μ-loop
+sub-if3 c = omega (arith, skims-run (c .before .before .before .before .before .before .before .loop .inv) _ (omega (arith, c .before .before .before .before .if2 .left)) (c .before .before .copy-run .ensures .0) (c .before .before .copy-run .ensures .1) .text-in)
+
+same-length-5 : tie.Need-same-length-5 Inv-loop μ-loop
+same-length-5 c = skims-room (skims-run (c .before .before .before .before .before .before .before .before .loop .inv) _ (omega (arith, c .before .before .before .before .before .if2 .left)) (c .before .before .before .copy-run .ensures .0) (c .before .before .before .copy-run .ensures .1)) .0
+
+same-length-6 : tie.Need-same-length-6 Inv-loop μ-loop
+same-length-6 c = skims-room (skims-run (c .before .before .before .before .before .before .before .before .loop .inv) _ (omega (arith, c .before .before .before .before .before .if2 .left)) (c .before .before .before .copy-run .ensures .0) (c .before .before .before .copy-run .ensures .1)) .1
+
+returns-3 : tie.Need-returns-3 Inv-loop μ-loop
+returns-3 c = skims-run (c .before .before .before .before .before .before .before .before .loop .inv) _ (omega (arith, c .before .before .before .before .before .if2 .left)) (c .before .before .before .copy-run .ensures .0) (c .before .before .before .copy-run .ensures .1)
+
+sub-alone : tie.Need-sub-alone Inv-loop μ-loop
+sub-alone c = c .before .before .before .copy-run .ensures .0 .there
+
+part-alone-start : tie.Need-part-alone-start Inv-loop μ-loop
+part-alone-start c = c .before .before .before .copy-run .ensures .0 .there
+
+part-alone-end : tie.Need-part-alone-end Inv-loop μ-loop
+part-alone-end c = search needs
+
+alone-requires : tie.Need-alone-requires Inv-loop μ-loop
+alone-requires c κs = search needs
+
+same-length-7 : tie.Need-same-length-7 Inv-loop μ-loop
+same-length-7 c = skims-room (skims-run (c .before .before .before .before .before .before .before .before .before .before .before .before .loop .inv) _ (omega (arith, c .before .before .before .before .before .before .before .before .before .if2 .left)) (c .before .before .before .before .before .before .before .copy-run .ensures .0) (c .before .before .before .before .before .before .before .copy-run .ensures .1)) .0
+
+same-length-8 : tie.Need-same-length-8 Inv-loop μ-loop
+same-length-8 c = skims-room (skims-run (c .before .before .before .before .before .before .before .before .before .before .before .before .loop .inv) _ (omega (arith, c .before .before .before .before .before .before .before .before .before .if2 .left)) (c .before .before .before .before .before .before .before .copy-run .ensures .0) (c .before .before .before .before .before .before .before .copy-run .ensures .1)) .1
+
+returns-4 : tie.Need-returns-4 Inv-loop μ-loop
+returns-4 c = skims-run (c .before .before .before .before .before .before .before .before .before .before .before .before .loop .inv) _ (omega (arith, c .before .before .before .before .before .before .before .before .before .if2 .left)) (c .before .before .before .before .before .before .before .copy-run .ensures .0) (c .before .before .before .before .before .before .before .copy-run .ensures .1)
+
+cast-put-piece : tie.Need-cast-put-piece Inv-loop μ-loop
+cast-put-piece c = omega (arith, c .before .before .before .before .before .before .before .before .before .copy-run .ensures .0 .there, c .before .before .before .before .before .before .before .before .before .before .before .before .before .before .before .before .before .before .pre .0)
+
+add-put-piece : tie.Need-add-put-piece Inv-loop μ-loop
+add-put-piece c = omega (arith, c .before .before .before .before .before .before .before .before .before .copy-run .ensures .0 .there, c .before .before .before .before .before .before .before .before .before .before .before .before .before .before .before .before .before .before .pre .0)
+
+put-piece-requires : tie.Need-put-piece-requires Inv-loop μ-loop
+put-piece-requires c κs =
+    let k = skims-run (c .before .before .before .before .before .before .before .before .before .before .before .before .before .before .loop .inv) _ (omega (arith, c .before .before .before .before .before .before .before .before .before .before .before .if2 .left)) (c .before .before .before .before .before .before .before .before .before .copy-run .ensures .0) (c .before .before .before .before .before .before .before .before .before .copy-run .ensures .1) in
+    (omega (arith, k .text-in, c .before .before .before .before .before .before .if3 .left), omega (arith, k .errors-in, c .before .before .before .before .before .before .before .before .before .before .before .if2 .left))
+
+add-at : tie.Need-add-at Inv-loop μ-loop
+add-at c =
+    let k = skims-run (c .before .before .before .before .before .before .before .before .before .before .before .before .before .before .before .before .before .before .before .before .loop .inv) _ (omega (arith, c .before .before .before .before .before .before .before .before .before .before .before .before .before .before .before .before .before .if2 .left)) (c .before .before .before .before .before .before .before .before .before .before .before .before .before .before .before .copy-run .ensures .0) (c .before .before .before .before .before .before .before .before .before .before .before .before .before .before .before .copy-run .ensures .1) in
+    let a = alone-stands _ (rw rest-from at (c .before .before .before .before .before .before .before .before .before .before .alone .ensures)) (c .before .before .before .before .before .before .before .before .if4 .left) in
+    let p = c .before .before .before .before .before .put-piece .ensures in
+    let s = skims-alone k (c .before .before .before .before .before .before .before .before .before .before .alone .result) (omega (arith, c .before .before .before .before .before .before .before .before .before .before .before .before .if3 .left)) (omega (arith, c .before .before .before .before .before .before .before .before .before .before .before .before .before .before .before .before .before .if2 .left)) a (p .0) (p .1) (p .2) in
+    omega (arith, s .there, c .before .before .before .before .before .before .before .before .before .before .before .before .before .before .before .before .before .before .before .before .before .before .before .before .pre .0)
+
+loop-less : tie.Need-loop-less Inv-loop μ-loop
+loop-less c =
+    let k = skims-run (c .before .before .before .before .before .before .before .before .before .before .before .before .before .before .before .before .before .before .before .before .loop .inv) _ (omega (arith, c .before .before .before .before .before .before .before .before .before .before .before .before .before .before .before .before .before .if2 .left)) (c .before .before .before .before .before .before .before .before .before .before .before .before .before .before .before .copy-run .ensures .0) (c .before .before .before .before .before .before .before .before .before .before .before .before .before .before .before .copy-run .ensures .1) in
+    let a = alone-stands _ (rw rest-from at (c .before .before .before .before .before .before .before .before .before .before .alone .ensures)) (c .before .before .before .before .before .before .before .before .if4 .left) in
+    let p = c .before .before .before .before .before .put-piece .ensures in
+    let s = skims-alone k (c .before .before .before .before .before .before .before .before .before .before .alone .result) (omega (arith, c .before .before .before .before .before .before .before .before .before .before .before .before .if3 .left)) (omega (arith, c .before .before .before .before .before .before .before .before .before .before .before .before .before .before .before .before .before .if2 .left)) a (p .0) (p .1) (p .2) in
+    omega (arith, s .there, c .before .before .before .before .before .before .before .before .before .before .before .before .before .before .before .copy-run .ensures .0 .from, c .before .before .before .before .before .before .before .before .if4 .left)
+
+loop-again : tie.Need-loop-again Inv-loop μ-loop
+loop-again c =
+    let k = skims-run (c .before .before .before .before .before .before .before .before .before .before .before .before .before .before .before .before .before .before .before .before .loop .inv) _ (omega (arith, c .before .before .before .before .before .before .before .before .before .before .before .before .before .before .before .before .before .if2 .left)) (c .before .before .before .before .before .before .before .before .before .before .before .before .before .before .before .copy-run .ensures .0) (c .before .before .before .before .before .before .before .before .before .before .before .before .before .before .before .copy-run .ensures .1) in
+    let a = alone-stands _ (rw rest-from at (c .before .before .before .before .before .before .before .before .before .before .alone .ensures)) (c .before .before .before .before .before .before .before .before .if4 .left) in
+    let p = c .before .before .before .before .before .put-piece .ensures in
+    skims-alone k (c .before .before .before .before .before .before .before .before .before .before .alone .result) (omega (arith, c .before .before .before .before .before .before .before .before .before .before .before .before .if3 .left)) (omega (arith, c .before .before .before .before .before .before .before .before .before .before .before .before .before .before .before .before .before .if2 .left)) a (p .0) (p .1) (p .2)
+
+same-length-9 : tie.Need-same-length-9 Inv-loop μ-loop
+same-length-9 c = skims-room (c .before .loop .inv) .0
+
+same-length-10 : tie.Need-same-length-10 Inv-loop μ-loop
+same-length-10 c = skims-room (c .before .loop .inv) .1
+
+returns-5 : tie.Need-returns-5 Inv-loop μ-loop
+returns-5 c = c .before .loop .inv
+
+pub skim-spec : {M : Type 1} → statement M
+skim-spec = tie.close (tie.spec Inv-loop μ-loop loop-holds sub-if1 same-length same-length-2 returns sub-if2 same-length-3 same-length-4 returns-2 copy-run-requires sub-if3 same-length-5 same-length-6 returns-3 sub-alone part-alone-start part-alone-end alone-requires same-length-7 same-length-8 returns-4 cast-put-piece add-put-piece put-piece-requires add-at loop-less loop-again same-length-9 same-length-10 returns-5)

@@ -1,0 +1,134 @@
+// A chunk where nothing is held: runs are copied and other characters that stand for themselves are written, without a look at the record.
+ghost use mathlib.Core.Path.{_≡_};
+ghost use mathlib.Core.List.{[]};
+ghost use Prim.Native.Nat.{_≤_, _<_, _+_, _-_, min};
+ghost use lib.ListN.{length, take, drop};
+ghost use Rattle.standard.specs.Rooms.{Put};
+ghost use Rattle.decoder.specs.Skims.{Runs, Alone, Skims};
+use crate::classes::character_code;
+use crate::pieces::Piece;
+use crate::runs::plain_run;
+use crate::stops::calls_for;
+use crate::writers::put_piece;
+use standard::Context;
+use standard::characters::CharRead;
+use standard::characters::read_char;
+
+fn least(a: usize, b: usize) -> usize
+    ensures { λ r. ⌜ r ≡ min a b ⌝ }
+{
+    if a < b {
+        return a;
+    }
+    b
+}
+
+// The place in the chunk up to which it was read, and the place after its text.
+struct Copied {
+    at: usize,
+    text: usize,
+}
+
+// A run of plain bytes is copied while 64 bytes are free before each.
+fn copy_run(context: Context, chunk: &[u8], at: usize, text: &mut [u8], w: usize) -> Copied
+    requires { ⌜ (at ≤ length (now chunk)) × (w + 64 ≤ length (now text)) ⌝ }
+    ensures { λ r. ⌜ Runs context (now (chunk .entry)) at (length (now (text .entry)) - w) (r .at)
+        × Put (now (text .entry)) w (take (r .at - at) (drop at (now (chunk .entry)))) (now (text .exit)) (r .text) ⌝ }
+{
+    let free = text.len() - w - 63;
+    let limit = least(chunk.len() - at, free);
+    let end = plain_run(&chunk[..at + limit], at, context);
+    Copied {
+        at: end,
+        text: rooms::copy(&chunk[at..end], text, w),
+    }
+}
+
+// The character at the front of rest as a piece, where it stands for itself and stops nothing; else a piece of no bytes.
+fn alone(context: Context, rest: &[u8]) -> Piece
+    ensures { λ r. ⌜ Alone context (now (rest .entry)) r ⌝ }
+{
+    let CharRead::Char { value, len } = read_char(rest) else {
+        return Piece::none(0);
+    };
+    if value == 0xD {
+        return Piece::none(0);
+    }
+    if value == 0x26 {
+        return Piece::none(0);
+    }
+    if calls_for(context, value) != 0 {
+        return Piece::none(0);
+    }
+    Piece::one(len, value, character_code(value), 0)
+}
+
+// The place in the chunk up to which it was read, and the places after what was written.
+pub(crate) struct Skimmed {
+    pub at: usize,
+    pub text: usize,
+    pub errors: usize,
+}
+
+// The chunk from `from` on, where before bytes were taken before it and nothing is held: as far as it stands for itself and has room.
+pub(crate) fn skim(
+    context: Context,
+    before: u32,
+    chunk: &[u8],
+    from: usize,
+    text: &mut [u8],
+    w0: usize,
+    errors: &mut [u32],
+    e0: usize,
+) -> Skimmed
+    requires { ⌜ (before + length (now chunk) ≤ 16777216) × (from ≤ length (now chunk)) × (w0 ≤ length (now text)) × (e0 ≤ length (now errors)) ⌝ }
+    ensures { λ r. ⌜ Skims context before (now (chunk .entry)) from (r .at) (now (text .entry)) w0 (now (text .exit)) (r .text)
+        (now (errors .entry)) e0 (now (errors .exit)) (r .errors) ⌝ }
+{
+    let mut at = from;
+    let mut w = w0;
+    let mut e = e0;
+    while at < chunk.len() {
+        if text.len() - w < 64 {
+            return Skimmed {
+                at,
+                text: w,
+                errors: e,
+            };
+        }
+        if errors.len() - e < 8 {
+            return Skimmed {
+                at,
+                text: w,
+                errors: e,
+            };
+        }
+        let run = copy_run(context, chunk, at, text, w);
+        at = run.at;
+        w = run.text;
+        if text.len() - w < 64 {
+            return Skimmed {
+                at,
+                text: w,
+                errors: e,
+            };
+        }
+        let piece = alone(context, &chunk[at..]);
+        if piece.size == 0 {
+            return Skimmed {
+                at,
+                text: w,
+                errors: e,
+            };
+        }
+        let next = put_piece(text, w, errors, e, piece, before + at as u32);
+        w = next.text;
+        e = next.errors;
+        at += piece.size;
+    }
+    Skimmed {
+        at,
+        text: w,
+        errors: e,
+    }
+}
