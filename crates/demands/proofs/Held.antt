@@ -1,6 +1,6 @@
 -- Document 01, 'The chunk decoder', the held rule: after any calls from a new stream, what was written is what the rule releases of the bytes
 -- that were taken. `released` is the rule, by itself.
-use Prim.Native.Nat.{ℕ, _+_}
+use Prim.Native.Nat.{ℕ, _+_, _≤_}
 use mathlib.Core.Path.{_≡_, refl, sym, _∙_, ap, subst}
 use mathlib.Core.List.{List, [], _++_, append-nil}
 use mathlib.Core.Bool.{Bool, true, false, _||_, _&&_}
@@ -28,6 +28,8 @@ use Rattle.decoder.specs.Stream.{
   lastOf,
   holds,
   isOpen,
+  heldOf,
+  recordOf,
   closedBy,
   closes,
   feedOf,
@@ -37,6 +39,7 @@ use Rattle.decoder.specs.Stream.{
 use Rattle.decoder.proofs.Bytes.{start}
 use Rattle.decoder.proofs.StreamReads.{go-held, go-ended}
 use Rattle.decoder.proofs.Tidy.{builtin-tidy}
+use Rattle.decoder.proofs.Open.{fits-count}
 use Rattle.decoder.proofs.Cuts.{go-end}
 use Rattle.decoder.proofs.Standing.{
   Standing,
@@ -83,7 +86,7 @@ Left context r t g Still = Standing context r t g
 Left context r t g (By answer) = (r ≡ closedBy context (length t)) × Gave context t g (By answer)
 
 -- The record of a stream that closed counts as closed.
-closed-closed : (context : Context) (n : ℕ) → isOpen builtin (closedBy context n) ≡ false
+pub closed-closed : (context : Context) (n : ℕ) → isOpen builtin (closedBy context n) ≡ false
 unfolding isOpen closedBy holds
 closed-closed context n = by (leb n longest-stream) _ _ _
   where
@@ -195,3 +198,12 @@ held {context} {r} {t} {g} {phase} c = by phase (left c)
       where
         taken : r ≡ closedBy context (length t) → r .taken ≡ length t
         taken e = ap (λ (x : Stream). x .taken) e
+
+-- Document 01: the store of held bytes has at most 32, whatever the source.
+pub store-fits : {context : Context} {r : Stream} {t : List ℕ} {g : Reading} {phase : Phase} → Calls context r t g phase → r .held .count ≤ 32
+unfolding closedBy recordOf heldOf
+store-fits {context} {r} {t} {g} {phase} c = by phase (left c)
+  where
+    by : (phase : Phase) → Left context r t g phase → r .held .count ≤ 32
+    by Still s = subst (λ (x : Stream). x .held .count ≤ 32) (sym (s .recorded)) (fits-count (s .here .st) (s .sound .opened .fits))
+    by (By answer) w = subst (λ (x : Stream). x .held .count ≤ 32) (sym (w .0)) (omega arith)

@@ -9,3 +9,5 @@ pub mod EscapeEdges
 pub mod Unique
 pub mod Held
 pub mod Cutting
+pub mod WalkStops
+pub mod StreamAnswers

@@ -13,3 +13,9 @@ pub line : {answer : ℕ} (defined n : ℕ) (when then : Type 0) → answer ≡ 
     → Line answer n when then
 line defined n when then is forth back so =
     record { only = λ e. back (sym is ∙ e); given = λ w. is ∙ forth w; so = λ w. so (forth w) }
+
+-- The answer is n exactly when `when` holds, and then `then` does of whatever shows it.
+pub record LineOf (answer n : ℕ) (when : Type 0) (then : when → Type 0) : Type 0 where
+  pub only : answer ≡ n → when
+  pub given : when → answer ≡ n
+  pub so : (w : when) → then w
