@@ -1,8 +1,8 @@
 -- The answers of a whole source, one law for each kind of return.
-use Prim.Native.Nat.{ℕ, zero, suc, _+_, _-_, _*_, _/_, _≤_, _<_}
+use Prim.Native.Nat.{ℕ, _+_, _-_, _*_, _/_, _≤_, _<_}
 use mathlib.Core.Path.{_≡_, refl, sym, _∙_, ap}
-use mathlib.Core.List.{List, [], _∷_}
-use mathlib.Core.Bool.{Bool, true, false, _||_}
+use mathlib.Core.List.{List, []}
+use mathlib.Core.Bool.{_||_}
 use mathlib.Core.Logic.{_⊎_, inl, inr, ⊎-elim}
 use native.Mathlib.Omega.{arith}
 use lib.Dec.{ltb, eqb}
@@ -10,7 +10,6 @@ use lib.ListN.{length, take}
 use lib.Seq.{sets, take-all}
 use borrow.Author.Tests.{lt-ltb, le-ltb}
 use Rattle.standard.specs.declared.Context.{Context}
-use Rattle.standard.specs.declared.Context.the-variants.{Text, Attribute}
 use Rattle.standard.specs.declared.characters.CharRead.{CharRead}
 use Rattle.standard.specs.declared.characters.CharRead.the-variants.{Char, Incomplete, Illformed, End}
 use Rattle.standard.specs.Notation.{if_then_else_}
@@ -18,7 +17,7 @@ use Rattle.standard.specs.Answers.{done, ill-formed, nul, too-long, context-end
 use Rattle.standard.specs.Contexts.{ends, refused}
 use Rattle.standard.specs.Errors.{numbers}
 use Rattle.standard.specs.NameList.{builtin}
-use Rattle.standard.specs.Reading.{callsFor, answerTo, Stop, stopFrom, stopOf, covered, Reading, reading, decode}
+use Rattle.standard.specs.Reading.{callsFor, answerTo, stopOf, covered, Reading, reading, decode}
 use Rattle.standard.specs.Rooms.{Wrote}
 use Rattle.standard.proofs.Bounds.{text-fits, errors-fit}
 use Rattle.standard.proofs.Narrow.{builtin-narrow}
@@ -26,18 +25,7 @@ use Rattle.standard.proofs.Choice.{if-both, test?}
 use Rattle.standard.proofs.Puts.{numbers-length}
 use Rattle.standard.proofs.Stops.{stop-done, stop-cases}
 use Rattle.decoder.specs.declared.whole.Decoded.{Decoded}
-use Rattle.decoder.specs.Whole.{
-  textRoom,
-  errorRoom,
-  decoded,
-  answerOf,
-  writtenOf,
-  textNamed,
-  placeNamed,
-  decodedOf,
-  Reads,
-  Decodes,
-}
+use Rattle.decoder.specs.Whole.{decoded, answerOf, writtenOf, textNamed, placeNamed, decodedOf, Reads, Decodes}
 
 -- What is written with an answer.
 abbrev pub writtenWith : Context → List ℕ → ℕ → Reading

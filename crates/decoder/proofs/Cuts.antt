@@ -1,7 +1,7 @@
 -- The walk over a chunk with its rooms is the walk over the bytes that it takes, and leaves the stream open.
 use Prim.Native.Nat.{ℕ, suc, _+_, _-_, _*_, _≤_, _<_}
 use Prim.Native.Char.{code}
-use mathlib.Core.Path.{_≡_, refl, sym, _∙_, ap, ap₂, subst}
+use mathlib.Core.Path.{_≡_, refl, sym, _∙_, ap, subst}
 use mathlib.Core.List.{List, [], _∷_, _++_}
 use mathlib.Core.Bool.{Bool, true, false, not}
 use mathlib.Core.Logic.{_≢_, _⊎_, inl, inr}
@@ -44,7 +44,7 @@ use Rattle.decoder.specs.Stream.{
   closes,
 }
 use Rattle.decoder.specs.Feeding.{OpenAt, byteWalk}
-use Rattle.decoder.proofs.Bytes.{go, start}
+use Rattle.decoder.proofs.Bytes.{go}
 use Rattle.decoder.proofs.Keeps.{step-keeps}
 use Rattle.decoder.proofs.Taking.{own-encoded, open-byte}
 
@@ -125,7 +125,8 @@ module _ (names : List Name) (context : Context) where
 
       by : (full taken : Bool) → lacksRoom text errors ≡ full → eqb (calledFor context (readChar own)) done ≡ taken → (y : Walked)
           → Took (text - length (m .gives .text)) (errors - 2 * length (m .gives .errors)) (m .to) s y
-          → Took text errors at (b ∷ s) (if full then stopsAt room-used-up nothing at else taking taken (calledFor context (readChar own)) at (m .gives) y)
+          → Took text errors at (b ∷ s) (if full then stopsAt room-used-up nothing at else taking taken (calledFor context (readChar own)) at
+          (m .gives) y)
       by true taken room f y later = record {
         count = 0;
         within = omega arith;

@@ -1,31 +1,23 @@
 -- A step of the machine keeps to the limits of an open stream.
-use Prim.Native.Nat.{ℕ, suc, _+_, _-_, _*_, _%_, _≤_, _<_}
+use Prim.Native.Nat.{ℕ, suc, _+_, _-_, _%_, _≤_, _<_}
 use Prim.Native.Char.{code}
 use mathlib.Core.Path.{_≡_, refl, sym, _∙_, ap, subst}
-use mathlib.Core.List.{List, [], _∷_, _++_}
-use mathlib.Core.Bool.{true, false, not, _||_}
-use mathlib.Core.Logic.{inl, inr, ⊎-elim}
+use mathlib.Core.List.{List, [], _++_}
+use mathlib.Core.Bool.{true, false, _||_}
+use mathlib.Core.Logic.{inl, inr}
 use native.Mathlib.Omega.{arith}
 use lib.Dec.{ltb, eqb}
-use lib.ListN.{length, getD, take, drop, length-append, length-take, take-append-drop}
-use lib.Seq.{getD-append-add, take-all, take-append-le}
-use borrow.Author.Tests.{ne-eqb, ltb-true, ltb-false}
+use lib.ListN.{length, getD, length-append}
+use lib.Seq.{getD-append-add}
+use borrow.Author.Tests.{ne-eqb, ltb-true}
 use Rattle.standard.specs.declared.Context.{Context}
-use Rattle.standard.specs.declared.characters.CharRead.{CharRead}
-use Rattle.standard.specs.declared.characters.CharRead.the-variants.{Char, Incomplete, Illformed, End}
-use Rattle.standard.specs.Answers.{done}
 use Rattle.standard.specs.Classes.{alphanumeric}
 use Rattle.standard.specs.Numbers.{isDigit, digitOf}
-use Rattle.standard.specs.Utf8.{readChar, scalar, octets, encode}
+use Rattle.standard.specs.Utf8.{scalar, octets, encode}
 use Rattle.standard.specs.Names.{longest, begins}
 use Rattle.standard.specs.NameList.{builtin}
-use Rattle.standard.proofs.Choice.{if-both, below?, no-way}
-use Rattle.standard.proofs.Back.{read-back}
+use Rattle.standard.proofs.Choice.{if-both}
 use Rattle.standard.proofs.RoundTrip.{encode-short}
-use Rattle.standard.proofs.Utf8.{read-take, read-append, incomplete-length}
-use Rattle.decoder.specs.declared.stream.State.{State}
-use Rattle.decoder.specs.declared.stream.State.the-variants as kind
-use Rattle.decoder.specs.declared.stream.Stream.{Stream}
 use Rattle.decoder.specs.Held.{heldName}
 use Rattle.decoder.specs.Machine.{
   St,
@@ -44,33 +36,9 @@ use Rattle.decoder.specs.Machine.{
   stepNamed,
   step,
 }
-use Rattle.decoder.specs.Stream.{
-  At,
-  placeOf,
-  lacksRoom,
-  calledFor,
-  Move,
-  moveBy,
-  Walked,
-  walk,
-  storeOf,
-  markOf,
-  kindOf,
-  heldOf,
-  recordOf,
-  stBy,
-  atOf,
-  holds,
-  isPart,
-  isOpen,
-  Outcome,
-  closes,
-  walkedTo,
-  feedOf,
-  newStream,
-}
+use Rattle.decoder.specs.Stream.{storeOf, markOf}
 use Rattle.decoder.specs.Turns.{Fits}
-use Rattle.decoder.proofs.Open.{held-by-last, open-fits, store-back, open-again}
+use Rattle.decoder.proofs.Open.{held-by-last}
 
 -- The last byte of a character is `;` only where the character is.
 last-byte : (c : ℕ) → eqb c (code ";") ≡ false → eqb (getD (encode c) (length (encode c) - 1) 0) (code ";") ≡ false

@@ -6,21 +6,18 @@ use mathlib.Core.List.{List, [], _∷_, _++_}
 use mathlib.Core.Bool.{Bool, true, false, not, _||_, _&&_, and-true, and-false}
 use mathlib.Core.Logic.{inl, inr, ⊎-elim}
 use native.Mathlib.Omega.{arith}
-use native.Mathlib.Numerals.{add-one}
-use lib.Dec.{ltb, leb, eqb}
-use lib.ListN.{length, getD, take, drop, set, replicate, length-take, length-append}
-use lib.Seq.{length-take-le, append-snoc, set-at, take-suc, take-all, take-append-seam, getD-take}
-use borrow.Author.Tests.{eq-eqb, eqb-true, ltb-true, leb-true, lt-ltb, le-leb}
+use lib.Dec.{ltb, eqb}
+use lib.ListN.{length, getD, take, drop, replicate, length-take, length-append}
+use lib.Seq.{length-take-le, take-suc, take-all, take-append-seam, getD-take}
+use borrow.Author.Tests.{eq-eqb, eqb-true, ltb-true, lt-ltb, le-leb}
 use Rattle.standard.specs.declared.Context.{Context}
 use Rattle.standard.specs.Notation.{if_then_else_}
 use Rattle.standard.specs.Classes.{alphanumeric}
 use Rattle.standard.specs.Utf8.{readChar}
-use Rattle.standard.specs.Names.{Name, stands, longest, begins}
+use Rattle.standard.specs.Names.{stands, longest, begins}
 use Rattle.standard.specs.NameList.{builtin}
 use Rattle.standard.proofs.Choice as choice
 use Rattle.standard.proofs.Choice.{no-way, or-true}
-use Rattle.standard.proofs.Computing.{computing}
-use Rattle.standard.proofs.Every.{All, every-all, all-member}
 use Rattle.standard.proofs.Narrow.{stands-fits}
 use Rattle.standard.proofs.Nexts.{next-at}
 use Rattle.decoder.proofs.Turning.{begins-short}
@@ -31,7 +28,6 @@ use Rattle.decoder.specs.Held.{isX, closedName, heldName}
 use Rattle.decoder.specs.Machine.{St, Data, AfterCr, Begin, Octothorpe, HexBegin, Numeric, Named, BogusName}
 use Rattle.decoder.specs.Stream.{
   At,
-  padded,
   storeOf,
   markOf,
   kindOf,

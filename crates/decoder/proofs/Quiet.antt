@@ -1,15 +1,15 @@
 -- Bytes of runs: plain ones stand for themselves, and ordinary ones stop no reading.
-use Prim.Native.Nat.{ℕ, _≤_, _<_}
+use Prim.Native.Nat.{ℕ, _<_}
 use Prim.Native.Char.{code}
 use mathlib.Core.Path.{_≡_, refl, sym, _∙_, ap}
-use mathlib.Core.Bool.{Bool, true, false, not, _||_, _&&_}
+use mathlib.Core.Bool.{Bool, true, not, _||_, _&&_}
 use mathlib.Core.Logic.{_⊎_, inl, inr, ⊎-elim}
 use native.Mathlib.Omega.{arith}
-use lib.Dec.{ltb, eqb}
+use lib.Dec.{eqb}
 use borrow.Author.Tests.{eqb-true, eqb-false, eq-eqb, ne-eqb, not-true}
 use Rattle.standard.specs.declared.Context.{Context}
 use Rattle.standard.specs.declared.Context.the-variants.{Text, Attribute}
-use Rattle.standard.specs.Notation.{if_then_else_, between}
+use Rattle.standard.specs.Notation.{between}
 use Rattle.standard.specs.Classes.{characterCode}
 use Rattle.standard.specs.Contexts.{ends}
 use Rattle.standard.specs.Answers.{done, context-end}

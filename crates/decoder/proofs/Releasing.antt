@@ -1,23 +1,20 @@
 -- Laws of what the code writes and keeps of one character, as the walk over one byte has it.
-use Prim.Native.Nat.{ℕ, zero, suc, _+_, _-_, _≤_, _<_}
-use mathlib.Core.Path.{_≡_, refl, sym, _∙_, ap, ap₂, subst}
+use Prim.Native.Nat.{ℕ, zero, suc, _+_, _-_, _≤_}
+use mathlib.Core.Path.{_≡_, refl, sym, _∙_, ap, subst}
 use mathlib.Core.List.{List, [], _∷_, _++_}
-use mathlib.Core.Bool.{true, false}
 use mathlib.Core.Logic.{_≢_}
 use native.Mathlib.Omega.{arith}
 use native.Mathlib.Numerals.{add-one}
-use lib.ListN.{length, getD, take, drop, set, length-append, length-take, length-drop}
-use lib.Seq.{take-add, take-all, take-suc-set, drop-at, length-take-le}
-use borrow.Author.Tests.{eq-eqb, ne-eqb}
-use Rattle.standard.specs.declared.Context.{Context}
-use Rattle.standard.specs.declared.characters.CharRead.{CharRead}
-use Rattle.standard.specs.declared.characters.CharRead.the-variants.{Char, Incomplete, Illformed, End}
+use lib.ListN.{length, getD, take, drop, set, length-append, length-take}
+use lib.Seq.{take-add, take-suc-set, drop-at, length-take-le}
+use borrow.Author.Tests.{ne-eqb}
+use Rattle.standard.specs.declared.characters.CharRead.the-variants.{Char, Incomplete, Illformed}
 use Rattle.standard.specs.Utf8.{readChar, encode}
 use Rattle.standard.specs.Answers.{done}
 use Rattle.standard.specs.Errors.{placed}
 use Rattle.standard.specs.NameList.{builtin}
 use Rattle.standard.specs.Pieces.{encodes}
-use Rattle.standard.specs.Reading.{callsFor, Reading, reading, readingAt, _⊕_}
+use Rattle.standard.specs.Reading.{callsFor, Reading, readingAt, _⊕_}
 use Rattle.standard.specs.Rooms.{Put, Wrote}
 use Rattle.standard.proofs.Puts.{⊕-none, wrote-none}
 use Rattle.standard.proofs.Utf8.{incomplete-length}
@@ -26,11 +23,11 @@ use Rattle.decoder.specs.declared.pieces.Piece.{Piece}
 use Rattle.decoder.specs.declared.stream.Held.{Held}
 use Rattle.decoder.specs.declared.stream.Stream.{Stream}
 use Rattle.decoder.specs.declared.feeding.Walked as code
-use Rattle.decoder.specs.Machine.{step, nothing}
+use Rattle.decoder.specs.Machine.{step}
 use Rattle.decoder.specs.Pieces.{pieceOf, noneOf}
 use Rattle.decoder.specs.Stream.{atBy, padded, Walked, lastOf, storeOf, heldOf, stOf, recordOf, atOf}
 use Rattle.decoder.specs.Turns.{Fit}
-use Rattle.decoder.specs.Feeding.{OpenAt, Open, charWalk, byteWalk, Walks}
+use Rattle.decoder.specs.Feeding.{Open, charWalk, byteWalk, Walks}
 use Rattle.decoder.proofs.Open.{fits-count}
 use Rattle.decoder.proofs.Padded.{padded-length}
 use Rattle.decoder.proofs.Taking.{own-encoded}

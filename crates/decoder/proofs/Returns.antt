@@ -25,12 +25,10 @@ use Rattle.decoder.specs.declared.stream.Fed.{Fed}
 use Rattle.decoder.specs.Machine.{nothing, finish}
 use Rattle.decoder.specs.Stream.{
   At,
-  atBy,
   placeOf,
   Walked,
   walk,
   lacksRoom,
-  storeOf,
   heldOf,
   recordOf,
   closedBy,

@@ -1,5 +1,5 @@
 -- Each step of the machine gives what its state says of the character, and its next state says the rest.
-use Prim.Native.Nat.{ℕ, suc, _+_, _*_, _≤_}
+use Prim.Native.Nat.{ℕ, suc, _+_, _≤_}
 use Prim.Native.Char.{code}
 use mathlib.Core.Path.{_≡_, refl, sym, _∙_, ap, subst}
 use mathlib.Core.List.{List, [], _∷_, _++_, append-assoc}
@@ -223,7 +223,8 @@ module _ (names : List Name) (context : Context) where
           (λ t. record { same = refl; valid = (omega arith, e) })
       go false true e f =
           looks-own (isDigit 10) (digit-ascii 10 (omega arith))
-          (λ s n. Ok names context p s n (whole q (code "&" ∷ code "#" ∷ s)) (to nothing (Numeric q (code "&" ∷ code "#" ∷ []) 10 (digitOf c)))) look f
+          (λ s n. Ok names context p s n (whole q (code "&" ∷ code "#" ∷ s)) (to nothing (Numeric q (code "&" ∷ code "#" ∷ []) 10
+          (digitOf c)))) look f
           (λ t. record {
             same =
                 digits-read names context q 10 2 c (code "#" ∷ c ∷ t) t (decimal-some names context c t e) refl f
@@ -249,7 +250,8 @@ module _ (names : List Name) (context : Context) where
           else after (noDigits q (code "&" ∷ code "#" ∷ letter ∷ [])) (stepData p c (take n s)))
       go true e =
           looks-own (isDigit 16) (digit-ascii 16 (omega arith))
-          (λ s n. Ok names context p s n (whole q (code "&" ∷ code "#" ∷ letter ∷ s)) (to nothing (Numeric q (code "&" ∷ code "#" ∷ letter ∷ []) 16 (digitOf c)))) look e
+          (λ s n. Ok names context p s n (whole q (code "&" ∷ code "#" ∷ letter ∷ s)) (to nothing (Numeric q (code "&" ∷ code "#" ∷ letter ∷ []) 16
+          (digitOf c)))) look e
           (λ t. record {
             same =
                 digits-read names context q 16 3 c (code "#" ∷ letter ∷ c ∷ t) t (hexadecimal-some names context letter (c ∷ t) x) refl e
@@ -330,7 +332,8 @@ module _ (names : List Name) (context : Context) where
       go false e =
           before (finishNamed context q (longest names h) h (take n s))
           (found-read names context q h s (take n s) (longest names h) (plain-held h al) (no-hash (h ++ s) first) found (longest-fits names h .0)
-          (named-near context (longest names h) h s (take n s) e (longest-fits names h .0) (sym (looks-take (λ c. eqb c (code "=") || alphanumeric c) look)))
+          (named-near context (longest names h) h s (take n s) e (longest-fits names h .0) (sym (looks-take (λ c. eqb c
+          (code "=") || alphanumeric c) look)))
           ∙ at-place (finishNamed context q (longest names h) h (take n s)) s (sym v))
           (data-ok p look)
 

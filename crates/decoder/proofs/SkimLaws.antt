@@ -2,12 +2,12 @@
 use Prim.Native.Nat.{ℕ, suc, _+_, _-_, _*_, _≤_, min}
 use Prim.Native.Char.{code}
 use mathlib.Core.Path.{_≡_, refl, sym, _∙_, ap, ap₂, subst}
-use mathlib.Core.List.{List, [], _∷_, _++_, append-nil}
+use mathlib.Core.List.{List, [], _∷_, _++_}
 use mathlib.Core.Bool.{Bool, true, false}
-use mathlib.Core.Logic.{_≢_, _⊎_, inl, inr}
+use mathlib.Core.Logic.{_≢_, inl, inr}
 use native.Mathlib.Omega.{arith}
 use lib.Dec.{eqb}
-use lib.ListN.{length, take, drop, length-append, length-take, length-drop, drop-of-length-le}
+use lib.ListN.{length, take, drop, length-take, length-drop, drop-of-length-le}
 use lib.Seq.{length-take-le, take-all, take-add, take-take, drop-at, drop-drop}
 use borrow.Author.Tests.{le-ltb, ne-eqb}
 use Rattle.standard.specs.declared.Context.{Context}
@@ -162,7 +162,8 @@ module _ {context : Context} {before : ℕ} {s : List ℕ} {from : ℕ} {text er
 
     -- A character is written.
     pub skims-alone : {text″ errors″ : List ℕ} {w″ e″ : ℕ} (p : Piece) → 64 ≤ length text′ - w′ → 8 ≤ length errors′ - e′
-        → Stands context (drop at s) p → Wrote (readingAt (before + at) (pieceOf p)) text′ w′ text″ w″ errors′ e′ errors″ e″ → w″ ≤ w′ + 8 → e″ ≤ e′ + 4
+        → Stands context (drop at s) p → Wrote (readingAt (before + at) (pieceOf p)) text′ w′ text″ w″ errors′ e′ errors″ e″ → w″ ≤ w′ + 8
+        → e″ ≤ e′ + 4
         → Skims context before s from (at + p .size) text w text″ w″ errors e errors″ e″
     skims-alone {text″} {errors″} {w″} {e″} p text-room errors-room a wrote text-few errors-few =
         let some = read-length (drop at s) (a .char) (a .size) (a .read) in
@@ -212,7 +213,8 @@ moves-none r o {s} {text} {errors} {at} {w} {e} there text-in errors-in =
     }
 
 -- What was skimmed, as a walk from a record with nothing held.
-pub moves-skim : (r : Stream) → r .held .state ≡ kind.Data → r .«part_count» ≡ 0 → {s text errors text′ errors′ : List ℕ} {at end w e w′ e′ before : ℕ}
+pub moves-skim : (r : Stream) → r .held .state ≡ kind.Data → r .«part_count» ≡ 0
+    → {s text errors text′ errors′ : List ℕ} {at end w e w′ e′ before : ℕ}
     → before ≡ r .taken - at → at ≤ r .taken → Skims (r .context) before s at end text w text′ w′ errors e errors′ e′ → {nothing-held : Held}
     → nothing-held ≡ heldOf Data
     → Moves r s at text w errors e

@@ -1,14 +1,13 @@
 -- Calls one after the other: what an open stream's record stands for, and what a call makes of it.
-use Prim.Native.Nat.{ℕ, suc, _+_, _-_, _≤_, _<_}
+use Prim.Native.Nat.{ℕ, _+_, _-_, _≤_, _<_}
 use mathlib.Core.Path.{_≡_, refl, sym, _∙_, ap, ap₂, subst}
-use mathlib.Core.List.{List, [], _∷_, _++_, append-assoc, append-nil}
-use mathlib.Core.Bool.{Bool, true, false, not, _||_, _&&_}
+use mathlib.Core.List.{List, [], _∷_, _++_}
+use mathlib.Core.Bool.{Bool, true, false, _||_}
 use mathlib.Core.Logic.{_≢_, _⊎_, inl, inr}
 use native.Mathlib.Omega.{arith}
-use lib.Dec.{ltb, leb, eqb}
-use lib.ListN.{length, take, drop, length-append, length-take, length-drop}
+use lib.Dec.{ltb, eqb}
+use lib.ListN.{length, take, length-append, length-take}
 use lib.Seq.{length-take-le}
-use borrow.Author.Tests.{eqb-true, eqb-false, eq-eqb, ne-eqb}
 use Rattle.standard.specs.declared.Context.{Context}
 use Rattle.standard.specs.Notation.{if_then_else_}
 use Rattle.standard.specs.Answers.{
@@ -20,7 +19,6 @@ use Rattle.standard.specs.Answers.{
   no-room,
   room-used-up,
   context-end,
-  closed,
   longest-slice,
   longest-stream,
 }
@@ -30,10 +28,9 @@ use Rattle.standard.proofs.Choice.{facts, if-both, no-way}
 use Rattle.standard.proofs.Puts.{⊕-none}
 use Rattle.decoder.specs.declared.stream.Stream.{Stream}
 use Rattle.standard.proofs.Utf8.{read-end}
-use Rattle.decoder.specs.Machine.{St, Data, nothing, finish}
+use Rattle.decoder.specs.Machine.{St, nothing, finish}
 use Rattle.decoder.specs.Stream.{
   At,
-  atBy,
   placeOf,
   Walked,
   stopsAt,
@@ -41,12 +38,10 @@ use Rattle.decoder.specs.Stream.{
   lastOf,
   lacksRoom,
   walk,
-  holds,
   storeOf,
   markOf,
   recordOf,
   atOf,
-  stOf,
   closedBy,
   isPart,
   isOpen,
@@ -60,7 +55,6 @@ use Rattle.decoder.specs.Stream.{
   newStream,
 }
 use Rattle.decoder.specs.Turns.{Fits}
-use Rattle.decoder.specs.Feeding.{OpenAt}
 use Rattle.decoder.proofs.Bytes.{go, start}
 use Rattle.decoder.proofs.Layer.{go-onward}
 use Rattle.decoder.proofs.StreamReads.{go-held}
@@ -212,7 +206,8 @@ module _ {context : Context} {r : Stream} {t : List ℕ} {g : Reading} (s : Stan
   -- What a chunk that is not refused comes to: it closes the stream, or that stands where the walk ended.
   pub data Comes (chunk : List ℕ) : Outcome → Type 0 where
     goes : {o : Outcome} → closes (o .answer) ≡ false → (o .answer ≡ done) ⊎ (o .answer ≡ room-used-up) → (o .answer ≡ done → o .taken ≡ length chunk)
-        → (o .answer ≡ room-used-up → 0 < o .taken) → o .taken ≤ length chunk → Standing context (o .record′) (t ++ take (o .taken) chunk) (g ⊕ o .gives) → Comes chunk o
+        → (o .answer ≡ room-used-up → 0 < o .taken) → o .taken ≤ length chunk → Standing context (o .record′) (t ++ take (o .taken) chunk)
+        (g ⊕ o .gives) → Comes chunk o
     stops : {o : Outcome} → closes (o .answer) ≡ true → Closing chunk o → Comes chunk o
 
   walk-comes : (chunk : List ℕ) (text errors : ℕ) → length t + length chunk ≤ longest-stream → lacksRoom text errors ≡ false
@@ -283,7 +278,8 @@ module _ {context : Context} {r : Stream} {t : List ℕ} {g : Reading} (s : Stan
       (λ f. subst P (λ i. outcome ill-formed 0 (placeOf (sym standing-at i)) nothing (closedBy (sym standing-context i) (sym standing-taken i)))
       (cut (omega (facts, count-is))))
       (λ f. subst P
-      (λ i. outcome done 0 0 (finish builtin (sym standing-context i) (sym standing-at i .st)) (closedBy (sym standing-context i) (sym standing-taken i)))
+      (λ i. outcome done 0 0 (finish builtin (sym standing-context i) (sym standing-at i .st)) (closedBy (sym standing-context i)
+      (sym standing-taken i)))
       (whole (none (s .here .part) (omega (facts, count-is)))))))
     where
       count-is : r .«part_count» ≡ length (s .here .part)

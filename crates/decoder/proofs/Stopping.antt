@@ -1,17 +1,16 @@
 -- Where a source stops, by runs of ordinary bytes and one character after each.
 use Prim.Native.Nat.{ℕ, _+_, _-_, _≤_, _<_}
 use mathlib.Core.Path.{_≡_, refl, sym, _∙_, ap}
-use mathlib.Core.List.{List, [], _∷_}
+use mathlib.Core.List.{List}
 use mathlib.Core.Logic.{⊎-elim}
 use native.Mathlib.Omega.{arith}
-use lib.Dec.{eqb}
 use lib.ListN.{length, take, drop, length-drop, drop-of-length-le}
 use lib.Seq.{drop-drop}
 use borrow.Author.Tests.{eq-eqb, ne-eqb}
 use Rattle.standard.specs.declared.Context.{Context}
 use Rattle.standard.specs.declared.characters.CharRead.{CharRead}
 use Rattle.standard.specs.declared.characters.CharRead.the-variants.{Char, Incomplete, Illformed, End}
-use Rattle.standard.specs.Notation.{if_then_else_, front}
+use Rattle.standard.specs.Notation.{front}
 use Rattle.standard.specs.Utf8.{readChar}
 use Rattle.standard.specs.Answers.{done}
 use Rattle.standard.specs.Reading.{callsFor, answerTo, sizeOf, Stop, stops, stopFrom, stopOf}
@@ -20,7 +19,7 @@ use Rattle.standard.proofs.Fronts.{front-length}
 use Rattle.standard.proofs.Choice.{below?}
 use Rattle.standard.proofs.Skips.{rest-from}
 use Rattle.standard.proofs.Stops.{stop-read}
-use Rattle.standard.proofs.Utf8.{read-end, read-length, incomplete-length, illformed-length, end-length}
+use Rattle.standard.proofs.Utf8.{read-length, incomplete-length, illformed-length, end-length}
 use Rattle.decoder.specs.Runs.{endOf, ordinary}
 use Rattle.decoder.proofs.Quiet.{ordinary-is}
 

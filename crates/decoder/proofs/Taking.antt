@@ -5,10 +5,9 @@ use mathlib.Core.List.{List, [], _∷_, _++_}
 use mathlib.Core.Bool.{Bool, true, false, not, _||_}
 use mathlib.Core.Logic.{_≢_, _⊎_, inl, inr, ⊎-elim}
 use native.Mathlib.Omega.{arith}
-use native.Mathlib.Numerals.{add-one}
 use lib.Dec.{eqb, ltb}
-use lib.ListN.{length, getD, take, drop, length-append, length-take, length-drop, take-append-drop, drop-of-length-le}
-use lib.Seq.{drop-cons, take-add, take-all, take-append-le, drop-drop}
+use lib.ListN.{length, getD, take, drop, length-append, length-drop, take-append-drop, drop-of-length-le}
+use lib.Seq.{drop-cons, take-add, take-all, take-append-le}
 use borrow.Author.Tests.{lt-ltb, le-ltb, eqb-false}
 use Rattle.standard.specs.declared.Context.{Context}
 use Rattle.standard.specs.declared.characters.CharRead.{CharRead}
@@ -16,34 +15,17 @@ use Rattle.standard.specs.declared.characters.CharRead.the-variants.{Char, Inco
 use Rattle.standard.specs.Notation.{if_then_else_}
 use Rattle.standard.specs.Utf8.{readChar, encode}
 use Rattle.standard.specs.Answers.{done, room-used-up}
-use Rattle.standard.specs.Errors.{numbers}
 use Rattle.standard.specs.NameList.{builtin}
 use Rattle.standard.specs.Reading.{callsFor, Reading, _⊕_}
-use Rattle.standard.specs.Rooms.{Put, Wrote}
+use Rattle.standard.specs.Rooms.{Wrote}
 use Rattle.standard.proofs.Back.{read-back}
 use Rattle.standard.proofs.Choice.{no-way, below?}
-use Rattle.standard.proofs.Puts.{wrote-none, wrote-join, put-length, numbers-length, ⊕-none}
+use Rattle.standard.proofs.Puts.{wrote-none, wrote-join, put-length, numbers-length}
 use Rattle.standard.proofs.Utf8.{read-append, read-length, read-take, read-end, end-length, incomplete-length}
 use Rattle.decoder.specs.declared.stream.Stream.{Stream}
 use Rattle.decoder.specs.declared.feeding.Walked as code
 use Rattle.decoder.specs.Machine.{nothing, step}
-use Rattle.decoder.specs.Stream.{
-  At,
-  atBy,
-  placeOf,
-  calledFor,
-  Move,
-  moveBy,
-  Walked,
-  stopsAt,
-  onward,
-  lastOf,
-  lacksRoom,
-  walk,
-  isPart,
-  recordOf,
-  atOf,
-}
+use Rattle.decoder.specs.Stream.{At, placeOf, calledFor, moveBy, Walked, stopsAt, onward, lastOf, lacksRoom, walk, isPart, recordOf, atOf}
 use Rattle.decoder.specs.Turns.{Fits}
 use Rattle.decoder.specs.Feeding.{OpenAt, Open, byteWalk, Walks, Bounded, Moves}
 use Rattle.decoder.proofs.Keeps.{step-fits}
@@ -235,11 +217,13 @@ module _ {start : Stream} {chunk text₀ errors₀ : List ℕ} where
     on s t is =
         ap (walk builtin (start .context) (length text₀) (length errors₀) (atOf start)) (sym is)
         ∙ walk-on builtin (start .context) (length text₀) (length errors₀) (atOf start) (take at chunk) s (ap (λ (x : Walked). x .answer) (g .walked))
-        ∙ ap (λ (x : Walked). onward (x .gives) (walkAfter builtin (start .context) (x .gives) (length text₀) (length errors₀) (x .stop) s)) (g .walked)
+        ∙ ap (λ (x : Walked). onward (x .gives) (walkAfter builtin (start .context) (x .gives) (length text₀) (length errors₀) (x .stop) s))
+        (g .walked)
         ∙ ap (onward (g .so-far)) (left s)
 
     -- The walk over the whole chunk goes on from here.
-    rest : whole start chunk text₀ errors₀ ≡ onward (g .so-far) (walk builtin (start .context) (length text - w) (length errors - e) (g .here) (drop at chunk))
+    rest : whole start chunk text₀ errors₀ ≡ onward (g .so-far) (walk builtin (start .context) (length text - w) (length errors - e) (g .here)
+        (drop at chunk))
     rest = on (drop at chunk) chunk (take-append-drop at chunk)
 
     -- Some bytes more are taken.
@@ -269,7 +253,8 @@ module _ {start : Stream} {chunk text₀ errors₀ : List ℕ} where
     taken-moves {r′} {at′} {w′} {e′} {text′} {errors′} m =
         let on = m .onward in
         let is : at + (at′ - at) ≡ at′ = omega (arith, on) in
-        let same = ap₂ (λ (c : Context) (a : At). walk builtin c (length text - w) (length errors - e) a (take (at′ - at) (drop at chunk))) taken-context taken-at in
+        let same = ap₂ (λ (c : Context) (a : At). walk builtin c (length text - w) (length errors - e) a (take (at′ - at)
+        (drop at chunk))) taken-context taken-at in
         subst (λ (n : ℕ). Taken start chunk text₀ errors₀ r′ n text′ w′ errors′ e′) is
         (taken-more (at′ - at) (m .gives) (m .here) (omega (arith, m .there)) (sym same ∙ m .walked) (m .opened)
         (omega (arith, m .taken-is, taken-count)) (m .recorded ∙ ap (λ (c : Context). recordOf c (m .here)) taken-context) (m .wrote) (m .text-in)
@@ -289,7 +274,8 @@ module _ {start : Stream} {chunk text₀ errors₀ : List ℕ} where
         }
 
     -- The next byte, where a walk over it is what the code's comes to.
-    module _ {x : code.Walked} {text′ errors′ : List ℕ} (more : at < length chunk) (text-free : w + 64 ≤ length text) (errors-free : e + 8 ≤ length errors)
+    module _ {x : code.Walked} {text′ errors′ : List ℕ} (more : at < length chunk) (text-free : w + 64 ≤ length text)
+        (errors-free : e + 8 ≤ length errors)
         (comes : Walks (r .context) (byteWalk builtin (r .context) (atOf r) (getD chunk at 0)) text w errors e x text′ errors′
         × (x .text ≤ w + 64) × (x .errors ≤ e + 8)) where
       next : Walks (r .context) (byteWalk builtin (r .context) (atOf r) (getD chunk at 0)) text w errors e x text′ errors′
@@ -369,7 +355,8 @@ module _ {start : Stream} {chunk text₀ errors₀ : List ℕ} where
         × Bounded start (length chunk) (ended room-used-up)
     taken-full more lacks = (
       taken-ends room-used-up nothing (g .here)
-          (walk-full builtin (start .context) (length text - w) (length errors - e) (g .here) (drop at chunk) (simp length-drop (omega arith)) (full lacks))
+          (walk-full builtin (start .context) (length text - w) (length errors - e) (g .here) (drop at chunk) (simp length-drop (omega arith))
+          (full lacks))
           refl (g .recorded) (wrote-none text w errors e),
       ended-bounded room-used-up,
     )

@@ -1,50 +1,28 @@
 -- Laws of a name's beginning that is held, and of a character that may go on with it.
 use Prim.Native.Nat.{ℕ, _+_, _-_, _≤_, _<_}
 use Prim.Native.Char.{code}
-use mathlib.Core.Path.{_≡_, refl, sym, _∙_, ap, subst}
+use mathlib.Core.Path.{_≡_, refl, sym, _∙_, ap}
 use mathlib.Core.List.{List, [], _∷_, _++_}
 use mathlib.Core.Logic.{_⊎_, inl, inr, ⊎-elim}
-use mathlib.Core.Bool.{Bool, true, false, not, and-false}
+use mathlib.Core.Bool.{Bool, true, false, not}
 use native.Mathlib.Omega.{arith}
 use lib.Dec.{ltb, leb, eqb}
 use lib.ListN.{length, drop, length-append}
 use lib.Seq.{drop-append-seam}
 use borrow.Author.Tests.{lt-ltb, le-ltb, ltb-true, leb-true, eq-eqb, eqb-true}
-use Rattle.standard.specs.declared.Context.{Context}
 use Rattle.standard.specs.Notation.{nextIs}
 use Rattle.standard.specs.Utf8.{octets, written, encode, scalar}
 use Rattle.standard.specs.Classes.{alphanumeric}
-use Rattle.standard.specs.Numbers.{digitOf, isDigit}
-use Rattle.standard.specs.Names.{Name, stands, longest, begins}
+use Rattle.standard.specs.Names.{Name, stands, begins}
 use Rattle.standard.specs.NameList.{builtin}
 use Rattle.standard.proofs.Choice.{if-both, no-way, test?, below?, and-true}
 use Rattle.standard.proofs.Computing.{computing}
 use Rattle.standard.proofs.Every.{All, every-all, all-member}
 use Rattle.standard.proofs.Narrow.{stands-fits}
-use Rattle.decoder.specs.Held.{isX, closedName, heldName}
-use Rattle.decoder.specs.Machine.{
-  St,
-  Data,
-  AfterCr,
-  Begin,
-  Octothorpe,
-  HexBegin,
-  Numeric,
-  Named,
-  BogusName,
-  Step,
-  addDigit,
-  stepData,
-  stepBogus,
-  settle,
-  stepNamed,
-  step,
-}
-use Rattle.decoder.specs.Stream.{storeOf, markOf}
-use Rattle.decoder.specs.Turns.{asciiOf, Fits}
+use Rattle.decoder.specs.Held.{closedName, heldName}
+use Rattle.decoder.specs.Turns.{asciiOf}
 use Rattle.decoder.proofs.Looks.{AsciiOnly, alphanumeric-ascii, equal-ascii, own-byte}
 use Rattle.decoder.proofs.Tidy.{tidyRest, builtin-tidy, Alphanumerics, begins-some, tidy-name, goes-on, closed-length}
-use Rattle.decoder.proofs.TurnLaws.{ascii-test}
 
 -- A list of no elements is empty.
 empty : (l : List ℕ) → length l ≤ 0 → l ≡ []

@@ -1,14 +1,13 @@
 -- The walk over a covered source: what was read so far is written, and with what is still to be read it is the whole reading.
 use Prim.Native.Nat.{ℕ, _+_, _-_, _*_, _≤_, _<_}
 use mathlib.Core.Path.{_≡_, refl, sym, _∙_, ap}
-use mathlib.Core.List.{List, [], _∷_}
-use mathlib.Core.Bool.{Bool, true, false}
+use mathlib.Core.List.{List, []}
+use mathlib.Core.Bool.{Bool, true}
 use native.Mathlib.Omega.{arith}
 use lib.ListN.{length, take, drop, length-append, length-drop, drop-of-length-le}
-use lib.Seq.{sets, drop-drop, drop-cons}
+use lib.Seq.{drop-drop}
 use Rattle.standard.specs.declared.Context.{Context}
 use Rattle.standard.specs.Notation.{front}
-use Rattle.standard.specs.Errors.{Error, numbers}
 use Rattle.standard.specs.Names.{Name, tableOf, records}
 use Rattle.standard.specs.NameList.{builtin}
 use Rattle.standard.specs.Pieces as standard
@@ -27,7 +26,7 @@ use Rattle.decoder.specs.Pieces.{pieceOf}
 use Rattle.decoder.specs.Runs.{plain, endOf}
 use Rattle.decoder.proofs.Quiet.{plain-is}
 use Rattle.standard.proofs.PieceSize.{piece-size}
-use Rattle.standard.proofs.Puts.{wrote-none, wrote-text, wrote-join, put-length, numbers-append, numbers-length, ⊕-assoc, ⊕-none}
+use Rattle.standard.proofs.Puts.{wrote-none, wrote-text, wrote-join, put-length, numbers-length, ⊕-assoc, ⊕-none}
 
 -- What is still to be read from at on.
 abbrev pub rest : List Name → Context → List ℕ → ℕ → Reading
@@ -119,7 +118,8 @@ module _ {names : List Name} {context : Context} {s text₀ errors₀ : List ℕ
 -- One turn of the decoder's loop over the built-in names: a run is copied, and then a piece is written.
 module _ {context : Context} {s text₀ errors₀ text errors : List ℕ} {at w e : ℕ} (room : length s + 64 ≤ length text₀) where
   -- A run ends within the source.
-  pub run-there : {from : ℕ} → Going builtin context s text₀ errors₀ at text w errors e → from ≡ at + length (front (plain (endOf context)) (drop at s))
+  pub run-there : {from : ℕ} → Going builtin context s text₀ errors₀ at text w errors e → from ≡ at + length (front (plain (endOf context))
+      (drop at s))
       → from ≤ length s
   run-there g is = omega (arith, g .there, front-length (plain (endOf context)) (drop at s), length-drop at s)
 
@@ -131,7 +131,8 @@ module _ {context : Context} {s text₀ errors₀ text errors : List ℕ} {at w 
       let run : List ℕ = front (plain (endOf context)) (drop at s) in
       let h = front-length (plain (endOf context)) (drop at s) in
       let long : from - at ≡ length run = omega arith in
-      let whole : take (from - at) (drop at s) ≡ run = ap (λ (n : ℕ). take n (drop at s)) long ∙ sym (front-is-take (plain (endOf context)) (drop at s)) in
+      let whole : take (from - at) (drop at s) ≡ run = ap (λ (n : ℕ). take n (drop at s)) long ∙ sym (front-is-take (plain (endOf context))
+      (drop at s)) in
       let r = run-room g builtin-narrow (plain (endOf context)) (plain-is (endOf context)) in
       let k = going-room g builtin-narrow in
       going-run g (plain (endOf context)) (plain-is (endOf context)) from is (omega (arith, g .there, length-drop at s))

@@ -19,7 +19,7 @@ use Rattle.standard.specs.Notation.{if_then_else_}
 use Rattle.standard.specs.Reading.{callsFor, Reading, _⊕_}
 use Rattle.standard.proofs.Choice.{below?}
 use Rattle.standard.proofs.Puts.{⊕-assoc, ⊕-none}
-use Rattle.standard.proofs.Utf8.{read-append, read-length, end-length, incomplete-length, illformed-length, read-take, read-short}
+use Rattle.standard.proofs.Utf8.{read-append, read-length, end-length, incomplete-length, illformed-length, read-take}
 use Rattle.standard.proofs.Soonest.{illformed-never}
 use Rattle.decoder.specs.Machine.{St, Step, nothing, step}
 use Rattle.decoder.specs.Feeding.{byteWalk}
@@ -137,7 +137,8 @@ module _ (names : List Name) (context : Context) where
 
       go : (full taken : Bool) → (x y : Walked) → (x .answer ≢ done → y ≡ x)
           → byteBy full taken (calledFor context (readChar own)) at (m .gives) x .answer ≢ done
-          → byteBy full taken (calledFor context (readChar own)) at (m .gives) y ≡ byteBy full taken (calledFor context (readChar own)) at (m .gives) x
+          → byteBy full taken (calledFor context (readChar own)) at (m .gives) y ≡ byteBy full taken (calledFor context (readChar own)) at
+          (m .gives) x
       go true taken x y later e = refl
       go false false x y later e = refl
       go false true x y later e = ap (onward (m .gives)) (later e)
@@ -232,7 +233,8 @@ module _ (names : List Name) (context : Context) (text errors : ℕ) where
         more : (readChar (own ++ s) ≡ Char c n → length own < n
             → from own (suc taken) s ≡ next (suc taken - length own) (suc taken + (n - length own)) c (take n (own ++ s)) (drop (n - length own) s))
             → suc (length part) < n
-            → from part taken (b ∷ s) ≡ next (taken - length part) (taken + (n - length part)) c (take n (part ++ b ∷ s)) (drop (n - length part) (b ∷ s))
+            → from part taken (b ∷ s) ≡ next (taken - length part) (taken + (n - length part)) c (take n (part ++ b ∷ s)) (drop (n - length part)
+            (b ∷ s))
         more later h =
             let joins : own ++ s ≡ part ++ b ∷ s = append-assoc part (b ∷ []) s in
             let less : n - length part ≡ suc (n - length own) = omega (arith, long) in
@@ -245,7 +247,8 @@ module _ (names : List Name) (context : Context) (text errors : ℕ) where
             (ap (λ (k : ℕ). drop k (b ∷ s)) (sym less))
 
         last : n ≤ suc (length part)
-            → from part taken (b ∷ s) ≡ next (taken - length part) (taken + (n - length part)) c (take n (part ++ b ∷ s)) (drop (n - length part) (b ∷ s))
+            → from part taken (b ∷ s) ≡ next (taken - length part) (taken + (n - length part)) c (take n (part ++ b ∷ s)) (drop (n - length part)
+            (b ∷ s))
         last h =
             let one : n ≡ suc (length part) = omega arith in
             let is : take n (part ++ b ∷ s) ≡ own = own-take part b n s one in

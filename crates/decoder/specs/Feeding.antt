@@ -63,7 +63,8 @@ pub record Bounded (start : Stream) (n : ℕ) (r : Walked) : Type 0 where
   pub there : r .«record» .«part_count» ≤ r .«record» .taken
 
 -- A walk from a record over the bytes of s from `from` to at took all of them, and what it gave was written.
-pub record Moves (r : Stream) (s : List ℕ) (from : ℕ) (text : List ℕ) (w : ℕ) (errors : List ℕ) (e : ℕ) (r′ : Stream) (at : ℕ) (text′ : List ℕ) (w′ : ℕ)
+pub record Moves (r : Stream) (s : List ℕ) (from : ℕ) (text : List ℕ) (w : ℕ) (errors : List ℕ) (e : ℕ) (r′ : Stream) (at : ℕ) (text′ : List ℕ)
+    (w′ : ℕ)
     (errors′ : List ℕ) (e′ : ℕ) : Type 0 where
   pub onward : from ≤ at
   pub there : at ≤ length s

@@ -1,6 +1,6 @@
 -- The piece that a value of the code stands for.
 use Prim.Native.Nat.{ℕ}
-use mathlib.Core.List.{List, [], _∷_, _++_}
+use mathlib.Core.List.{[], _∷_, _++_}
 use Rattle.standard.specs.Errors.{listed}
 use Rattle.standard.specs.Pieces as standard
 use Rattle.decoder.specs.declared.pieces.Piece.{Piece}

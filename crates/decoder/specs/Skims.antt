@@ -44,7 +44,8 @@ abbrev pub Alone : Context → List ℕ → Piece → Type 0
 Alone context s p = (p ≡ noneOf 0) ⊎ Stands context s p
 
 -- The bytes of s from `from` to at were read with nothing held before and after, before bytes were taken before s, and what they give was written.
-pub record Skims (context : Context) (before : ℕ) (s : List ℕ) (from at : ℕ) (text : List ℕ) (w : ℕ) (text′ : List ℕ) (w′ : ℕ) (errors : List ℕ) (e : ℕ)
+pub record Skims (context : Context) (before : ℕ) (s : List ℕ) (from at : ℕ) (text : List ℕ) (w : ℕ) (text′ : List ℕ) (w′ : ℕ) (errors : List ℕ)
+    (e : ℕ)
     (errors′ : List ℕ) (e′ : ℕ) : Type 0 where
   pub onward : from ≤ at
   pub there : at ≤ length s

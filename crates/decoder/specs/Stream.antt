@@ -33,7 +33,7 @@ use Rattle.decoder.specs.declared.stream.State.the-variants as kind
 use Rattle.decoder.specs.declared.stream.Held.{Held}
 use Rattle.decoder.specs.declared.stream.Stream.{Stream}
 use Rattle.decoder.specs.declared.stream.Fed.{Fed}
-use Rattle.decoder.specs.Held.{isX, heldName}
+use Rattle.decoder.specs.Held.{heldName}
 use Rattle.decoder.specs.Machine.{
   St,
   Data,

@@ -158,7 +158,8 @@ fn take_char(
     errors: &mut [u32],
     e: usize,
 ) -> Walked
-    requires { ⌜ (now table ≡ tableOf builtin) × Open «record» × («record» .taken < 16777216) × (w + 64 ≤ length (now text)) × (e + 8 ≤ length (now errors)) ⌝ }
+    requires { ⌜ (now table ≡ tableOf builtin) × Open «record» × («record» .taken < 16777216)
+        × (w + 64 ≤ length (now text)) × (e + 8 ≤ length (now errors)) ⌝ }
     ensures { λ r. ⌜ Walks («record» .context) (charWalk builtin («record» .context) (spec.atOf «record») c (encode c))
         (now (text .entry)) w (now (errors .entry)) e r (now (text .exit)) (now (errors .exit)) × (r .text ≤ w + 64) × (r .errors ≤ e + 8) ⌝ }
 {
@@ -195,7 +196,8 @@ fn take_char(
 // One byte more is of a character that is not whole yet.
 fn keep_byte(record: Stream, own: &[u8], n: usize) -> Stream
     requires { ⌜ (n ≤ 3) × (n ≤ length (now own)) × («record» .taken < 16777216) × («record» .held ≡ spec.heldOf (spec.stOf («record» .held))) ⌝ }
-    ensures { λ r. ⌜ r ≡ spec.recordOf («record» .context) (spec.atBy (spec.stOf («record» .held)) (take n (now (own .entry))) («record» .taken + 1)) ⌝ }
+    ensures { λ r. ⌜ r ≡ spec.recordOf («record» .context)
+        (spec.atBy (spec.stOf («record» .held)) (take n (now (own .entry))) («record» .taken + 1)) ⌝ }
 {
     let context = record.context;
     let held = record.held;
@@ -219,7 +221,8 @@ fn take_byte(
     errors: &mut [u32],
     e: usize,
 ) -> Walked
-    requires { ⌜ (now table ≡ tableOf builtin) × Open «record» × («record» .taken < 16777216) × (w + 64 ≤ length (now text)) × (e + 8 ≤ length (now errors)) ⌝ }
+    requires { ⌜ (now table ≡ tableOf builtin) × Open «record» × («record» .taken < 16777216)
+        × (w + 64 ≤ length (now text)) × (e + 8 ≤ length (now errors)) ⌝ }
     ensures { λ r. ⌜ Walks («record» .context) (byteWalk builtin («record» .context) (spec.atOf «record») b)
         (now (text .entry)) w (now (errors .entry)) e r (now (text .exit)) (now (errors .exit)) × (r .text ≤ w + 64) × (r .errors ≤ e + 8) ⌝ }
 {

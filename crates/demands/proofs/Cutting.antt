@@ -1,15 +1,15 @@
 -- Demand 2, document 01, 'Right, however cut': from a new stream to its closing answer, for every source and every sequence of chunk and room
 -- lengths for which the table gives no 3, 4 or 5, with bytes not taken handed in again.
 use Prim.Native.Nat.{ℕ, _+_, _-_, _≤_, _<_}
-use mathlib.Core.Path.{_≡_, refl, sym, _∙_, ap, ap₂, subst}
+use mathlib.Core.Path.{_≡_, refl, sym, _∙_, ap, subst}
 use mathlib.Core.List.{List, [], _++_, append-assoc, append-nil}
-use mathlib.Core.Bool.{Bool, true, false}
+use mathlib.Core.Bool.{true, false}
 use mathlib.Core.Logic.{_≢_, _⊎_, inl, inr, ⊎-elim}
 use native.Mathlib.Omega.{arith}
 use lib.ListN.{length, take, drop, take-append-drop}
 use lib.Seq.{drop-append-le}
 use Rattle.standard.specs.declared.Context.{Context}
-use Rattle.standard.specs.Answers.{done, ill-formed, nul, too-long, stream-too-long, no-room, room-used-up, context-end, closed}
+use Rattle.standard.specs.Answers.{done, ill-formed, nul, too-long, stream-too-long, no-room, context-end, closed}
 use Rattle.standard.specs.NameList.{builtin}
 use Rattle.standard.specs.Reading.{Stop, stops, stopOf, covered, Reading, _⊕_, decode}
 use Rattle.standard.proofs.Choice.{no-way}
@@ -53,7 +53,8 @@ pub record Whole (context : Context) (source : List ℕ) (g : Reading) (answer p
   pub held : (answer ≡ ill-formed) ⊎ (answer ≡ nul) → g ≡ released builtin context source
 
 -- A source that is the same.
-same-source : {context : Context} {s t : List ℕ} {g : Reading} {answer place : ℕ} → s ≡ t → Whole context s g answer place → Whole context t g answer place
+same-source : {context : Context} {s t : List ℕ} {g : Reading} {answer place : ℕ} → s ≡ t → Whole context s g answer place
+    → Whole context t g answer place
 same-source {context} {g = g} {answer} {place} e w = subst (λ (x : List ℕ). Whole context x g answer place) e w
 
 -- An answer that closes a stream while it is fed is not another.
@@ -141,10 +142,12 @@ again t chunk later k h =
     ∙ ap (λ (l : List ℕ). t ++ (l ++ later)) (take-append-drop k chunk)
 
 -- A run from where a stream stands gives the whole, with what was taken and given before.
-whole-run : {context : Context} {r : Stream} {t : List ℕ} {g₀ : Reading} → Standing context r t g₀ → (source : List ℕ) {g : Reading} {answer place : ℕ}
+whole-run : {context : Context} {r : Stream} {t : List ℕ} {g₀ : Reading} → Standing context r t g₀ →
+    (source : List ℕ) {g : Reading} {answer place : ℕ}
     → Runs r source g answer place → Whole context (t ++ source) (g₀ ⊕ g) answer place
 whole-run {context} {t = t} {g₀} s source (ends r text errors o is a) =
-    subst (λ (o : Outcome). Accepted (o .answer) → Whole context (t ++ []) (g₀ ⊕ o .gives) (o .answer) (o .place)) (sym is) (whole-ends s text errors) a
+    subst (λ (o : Outcome). Accepted (o .answer) → Whole context (t ++ []) (g₀ ⊕ o .gives) (o .answer) (o .place)) (sym is)
+    (whole-ends s text errors) a
 whole-run {context} {t = t} {g₀} s source (leaves r chunk later text errors o is a e) =
     subst
     (λ (o : Outcome). Accepted (o .answer) → closes (o .answer) ≡ true

@@ -1,17 +1,17 @@
 -- Demand 1 for escaping: for each line of the table of answers, when `escape` gives it, and what then holds.
 -- r and out′ are whatever meets the contract of `escape` for an input and a room.
 use Prim.Native.Nat.{ℕ, _≤_, _<_}
-use mathlib.Core.Path.{_≡_, refl, sym, _∙_, ap}
-use mathlib.Core.List.{List, []}
+use mathlib.Core.Path.{_≡_, refl, _∙_, ap}
+use mathlib.Core.List.{List}
 use mathlib.Core.Logic.{_⊎_, inl, inr, ⊎-elim}
 use native.Mathlib.Omega.{arith}
 use lib.ListN.{length}
 use lib.Seq.{sets}
-use borrow.Author.Tests.{lt-ltb, le-ltb, eq-eqb}
+use borrow.Author.Tests.{lt-ltb, le-ltb}
 use Rattle.standard.specs.declared.characters.CharRead.{CharRead}
 use Rattle.standard.specs.declared.characters.CharRead.the-variants.{Char, Incomplete, Illformed, End}
 use Rattle.standard.specs.Answers.{done, ill-formed, too-long, room-asked}
-use Rattle.standard.specs.Reading.{answerTo, Stop}
+use Rattle.standard.specs.Reading.{answerTo}
 use Rattle.standard.proofs.Choice.{below?}
 use Rattle.standard.proofs.Stops.{stop-cases}
 use Rattle.escaper.specs.declared.Mode.{Mode}

@@ -12,7 +12,7 @@ use lib.Seq.{length-take-le, take-length}
 use borrow.Author.Tests.{eqb-true}
 use Rattle.standard.specs.declared.Context.{Context}
 use Rattle.standard.specs.Notation.{if_then_else_}
-use Rattle.standard.specs.Answers.{done, ill-formed, context-end, closed, longest-stream}
+use Rattle.standard.specs.Answers.{done, ill-formed, context-end, longest-stream}
 use Rattle.standard.specs.NameList.{builtin}
 use Rattle.standard.specs.Reading as Reading
 use Rattle.standard.specs.Reading.{Stop, stopOf, covered, Reading, _⊕_, decode}
@@ -21,39 +21,13 @@ use Rattle.standard.proofs.Puts.{⊕-assoc, ⊕-none}
 use Rattle.decoder.specs.declared.stream.Stream.{Stream}
 use Rattle.decoder.specs.Held.{released}
 use Rattle.decoder.specs.Machine.{nothing, finish}
-use Rattle.decoder.specs.Stream.{
-  stopsAt,
-  Outcome,
-  refuses,
-  lastOf,
-  holds,
-  isOpen,
-  heldOf,
-  recordOf,
-  closedBy,
-  closes,
-  feedOf,
-  endOf,
-  newStream,
-}
+use Rattle.decoder.specs.Stream.{stopsAt, Outcome, holds, isOpen, heldOf, recordOf, closedBy, closes, feedOf, endOf, newStream}
 use Rattle.decoder.proofs.Bytes.{start}
 use Rattle.decoder.proofs.StreamReads.{go-held, go-ended}
 use Rattle.decoder.proofs.Tidy.{builtin-tidy}
 use Rattle.decoder.proofs.Open.{fits-count}
 use Rattle.decoder.proofs.Cuts.{go-end}
-use Rattle.decoder.proofs.Standing.{
-  Standing,
-  Closing,
-  Comes,
-  goes,
-  stops,
-  sound-start,
-  standing-new,
-  standing-taken,
-  standing-context,
-  feed-is,
-  end-is,
-}
+use Rattle.decoder.proofs.Standing.{Standing, Closing, Comes, goes, stops, sound-start, standing-new, standing-taken, feed-is, end-is}
 
 -- A stream is still open, or an answer closed it.
 pub data Phase : Type 0 where
@@ -124,7 +98,8 @@ module _ {context : Context} {r : Stream} {t : List ℕ} {g : Reading} (s : Stan
       gave true f =
           let seven = eqb-true (o .answer) context-end f in
           let stopped = c .stopped ∙ ap (λ (a : ℕ). stopsAt a (g ⊕ o .gives) (c .stop)) seven in
-          let whole = go-ended builtin context builtin-tidy took (g ⊕ c .before) (c .stop) (c .took) (go-end context start (t ++ chunk) sound-start stopped) in
+          let none = go-end context start (t ++ chunk) sound-start stopped in
+          let whole = go-ended builtin context builtin-tidy took (g ⊕ c .before) (c .stop) (c .took) none in
           rw (not-done (o .answer) e, f)
           (ap (λ (x : Reading). g ⊕ x) (c .gave ∙ ap (λ (x : Bool). c .before ⊕ (if x then finish builtin context (c .stop .st) else nothing)) f)
           ∙ sym (⊕-assoc g (c .before) (finish builtin context (c .stop .st))) ∙ whole .0

@@ -11,7 +11,7 @@ use Rattle.standard.specs.declared.Context.{Context}
 use Rattle.standard.specs.Answers.{done, ill-formed, nul, too-long, context-end, room-asked}
 use Rattle.standard.specs.Errors.{numbers}
 use Rattle.standard.specs.NameList.{builtin}
-use Rattle.standard.specs.Reading.{Stop, stopOf, covered, Reading, decode}
+use Rattle.standard.specs.Reading.{stopOf, covered, Reading, decode}
 use Rattle.standard.proofs.Choice.{below?}
 use Rattle.decoder.specs.declared.whole.Decoded.{Decoded}
 use Rattle.decoder.specs.Whole.{decoded, answerOf, Decodes}

@@ -1,6 +1,3 @@
-use native.Mathlib.Omega.{arith}
-use lib.ListN.{length, length-take}
-use mathlib.Core.Path.{_≡_}
 use borrow.Author.Needs.{needs}
 use Rattle.decoder.specs.Stream.{recordOf}
 use Rattle.decoder.proofs.Releasing.{keeps}
@@ -20,4 +17,9 @@ returns c =
     keeps (a .args .«record») (a .args .own .now) (a .args .n) (a .pre .1) (a .pre .3) (c .before .kept .ensures)
 
 pub keep-byte-spec : {M : Type 1} → statement M
-keep-byte-spec = tie.close (tie.spec kept-requires add-t7 returns)
+keep-byte-spec =
+    tie.close
+    (tie.spec
+    kept-requires
+    add-t7
+    returns)

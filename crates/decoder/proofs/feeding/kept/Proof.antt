@@ -1,6 +1,6 @@
 -- The invariant: the array has the first i bytes, and zeros after them.
 use Prim.Native.Nat.{_≤_, _-_}
-use mathlib.Core.Path.{_≡_, refl, _∙_, ap}
+use mathlib.Core.Path.{_≡_, refl, _∙_}
 use native.Mathlib.Omega.{arith}
 use lib.ListN.{length, take, length-set}
 use Rattle.decoder.specs.Stream.{padded}

@@ -25,4 +25,11 @@ returns c =
     (t .next, wrote-as (t .gives) (p .0), p .1, p .2)
 
 pub meet-spec : {M : Type 1} → statement M
-meet-spec = tie.close (tie.spec step-requires put-turn-requires same-length same-length-2 returns)
+meet-spec =
+    tie.close
+    (tie.spec
+    step-requires
+    put-turn-requires
+    same-length
+    same-length-2
+    returns)

@@ -16,8 +16,14 @@ none-requires c κs = search needs
 
 put-turn-requires : tie.Need-put-turn-requires
 put-turn-requires c κs =
-    let a = c .before .before .before .before .before .before .before in
-    (a .pre .2, a .pre .3, c .before .before .before .finish .ensures .within, fit-count (a .args .held) (a .pre .1), fit-long (a .args .held) (a .pre .1))
+    let a = c .before .before .before .before .before .before .before in (
+      a .pre .2,
+      a .pre .3,
+      c .before .before .before .finish .ensures .within,
+      fit-count (a .args .held) (a .pre .1),
+      fit-long (a .args .held)
+          (a .pre .1),
+    )
 
 same-length : tie.Need-same-length
 same-length c = search needs
@@ -31,7 +37,8 @@ returns c =
     let a = c .before .before .before .before .before .before .before .before .before .before .before .before .args in
     let p = c .before .before .before .before .put-turn .ensures in (
       wrote-as
-          (ap (λ (own : Piece). releasedOf (a .held) (f .result) ⊕ readingAt 0 (pieceOf own)) (c .before .before .before .before .before .none .ensures)
+          (ap (λ (own : Piece). releasedOf (a .held) (f .result) ⊕ readingAt 0 (pieceOf own))
+          (c .before .before .before .before .before .none .ensures)
           ∙ none-gives 0 0 (releasedOf (a .held) (f .result)) ∙ f .ensures .gives)
           (p .0),
       p .1,
@@ -39,4 +46,12 @@ returns c =
     )
 
 pub put-last-spec : {M : Type 1} → statement M
-put-last-spec = tie.close (tie.spec finish-requires none-requires put-turn-requires same-length same-length-2 returns)
+put-last-spec =
+    tie.close
+    (tie.spec
+    finish-requires
+    none-requires
+    put-turn-requires
+    same-length
+    same-length-2
+    returns)

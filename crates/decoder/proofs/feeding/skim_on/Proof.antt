@@ -33,10 +33,16 @@ data-requires : tie.Need-data-requires
 data-requires c κs = search needs
 
 cast-t15 : tie.Need-cast-t15
-cast-t15 c = let a = c .before .before .before .before .before .before .before .before .before .before .before .before .before .before .before .before .before in omega (arith, c .before .before .before .before .before .skim .ensures .there, a .pre .1, a .pre .2)
+cast-t15 c =
+    let k = c .before .before .before .before .before in
+    let a = k .before .before .before .before .before .before .before .before .before .before .before .before in
+    omega (arith, k .skim .ensures .there, a .pre .1, a .pre .2)
 
 add-t22 : tie.Need-add-t22
-add-t22 c = let a = c .before .before .before .before .before .before .before .before .before .before .before .before .before .before .before .before .before in omega (arith, c .before .before .before .before .before .skim .ensures .there, a .pre .1, a .pre .2)
+add-t22 c =
+    let k = c .before .before .before .before .before in
+    let a = k .before .before .before .before .before .before .before .before .before .before .before .before in
+    omega (arith, k .skim .ensures .there, a .pre .1, a .pre .2)
 
 same-length : tie.Need-same-length
 same-length c = search needs
@@ -46,8 +52,25 @@ same-length-2 c = search needs
 
 returns-3 : tie.Need-returns-3
 returns-3 c =
-    let a = c .before .before .before .before .before .before .before .before .before .before .before .before .before .before .before .before .before in
-    moves-skim (a .args .«record») (c .before .before .before .before .before .before .before .before .before .before .before .enum-told .given .1) (c .before .before .before .before .before .before .before .before .before .if1 .left) refl (a .pre .1) (c .before .before .before .before .before .skim .ensures) (c .«data» .ensures)
+    let k = c .before .before .before .before .before in
+    let i = k .before .before .before .before in
+    let e = i .before .before in
+    let a = e .before .before .before .before .before .before in
+    moves-skim (a .args .«record») (e .enum-told .given .1) (i .if1 .left) refl (a .pre .1) (k .skim .ensures) (c .«data» .ensures)
 
 pub skim-on-spec : {M : Type 1} → statement M
-skim-on-spec = tie.close (tie.spec enum-told returns returns-2 cast-before sub-before skim-requires data-requires cast-t15 add-t22 same-length same-length-2 returns-3)
+skim-on-spec =
+    tie.close
+    (tie.spec
+    enum-told
+    returns
+    returns-2
+    cast-before
+    sub-before
+    skim-requires
+    data-requires
+    cast-t15
+    add-t22
+    same-length
+    same-length-2
+    returns-3)

@@ -50,7 +50,11 @@ slice-aggregate-keep-byte : tie.Need-slice-aggregate-keep-byte
 slice-aggregate-keep-byte c = search needs
 
 add-keep-byte : tie.Need-add-keep-byte
-add-keep-byte c = let a = c .before .before .before .before .before .before .before .before .before in omega (arith, part-long (a .args .«record») (a .pre .1))
+add-keep-byte c = let a = c .before .before .before .before .before .before .before .before .before in omega (
+  arith,
+  part-long (a .args .«record»)
+      (a .pre .1),
+)
 
 keep-byte-requires : tie.Need-keep-byte-requires
 keep-byte-requires c κs =
@@ -58,7 +62,8 @@ keep-byte-requires c κs =
     let r = a .args .«record» in
     let three : length (r .part) ≡ 3 = open-part r (a .pre .1) in
     let read = sym (own-list r (a .pre .1) three (a .args .b)) in
-    let few = kept-few r (a .pre .1) (a .args .b) (ap readChar read ∙ sym (c .before .before .before .read-char .ensures) ∙ c .before .enum-told .given .1) in
+    let is = ap readChar read ∙ sym (c .before .before .before .read-char .ensures) ∙ c .before .enum-told .given .1 in
+    let few = kept-few r (a .pre .1) (a .args .b) is in
     (few, simp length-set (omega (arith, few)), a .pre .2, open-fit r (a .pre .1) .whole)
 
 enum-told-2 : tie.Need-enum-told-2
@@ -75,11 +80,17 @@ same-length-2 c = search needs
 
 returns : tie.Need-returns
 returns c =
-    let a = c .before .before .before .before .before .before .before .before .before .before .before .before .before .before .before .before in
+    let far = c .before .before .before .before .before .before .before .before .before .before in
+    let a = far .before .before .before .before .before .before in
     let r = a .args .«record» in
-    let read = ap readChar (sym (own-list r (a .pre .1) (open-part r (a .pre .1)) (a .args .b))) ∙ sym (c .before .before .before .before .before .before .before .before .before .before .read-char .ensures) in
-    let t = c .before .before .before .before .take-char .ensures in
-    (byte-char r (a .pre .1) (a .args .b) (read ∙ c .before .before .before .before .before .before .before .before .value .given .1) (t .0), t .1, t .2)
+    let own-is = own-list r (a .pre .1) (open-part r (a .pre .1)) (a .args .b) in
+    let read = ap readChar (sym own-is) ∙ sym (far .read-char .ensures) in
+    let t = c .before .before .before .before .take-char .ensures in (
+      byte-char r (a .pre .1) (a .args .b) (read ∙ c .before .before .before .before .before .before .before .before .value .given .1)
+          (t .0),
+      t .1,
+      t .2,
+    )
 
 returns-2 : tie.Need-returns-2
 returns-2 c =
@@ -97,15 +108,42 @@ returns-3 : tie.Need-returns-3
 returns-3 c =
     let a = c .before .before .before .before .before .before .before .before in
     let r = a .args .«record» in
-    let read = ap readChar (sym (own-list r (a .pre .1) (open-part r (a .pre .1)) (a .args .b))) ∙ sym (c .before .before .read-char .ensures) in
+    let own-is = own-list r (a .pre .1) (open-part r (a .pre .1)) (a .args .b) in
+    let read = ap readChar (sym own-is) ∙ sym (c .before .before .read-char .ensures) in
     (byte-ill r (a .pre .1) (a .args .b) (read ∙ c .enum-told2 .given .1), omega arith, omega arith)
 
 returns-4 : tie.Need-returns-4
 returns-4 c =
     let a = c .before .before .before .before .before .before .before .before in
     let r = a .args .«record» in
-    let read = ap readChar (sym (own-list r (a .pre .1) (open-part r (a .pre .1)) (a .args .b))) ∙ sym (c .before .before .read-char .ensures) in
-    absurd (omega (arith, end-length (atOf r .part ++ a .args .b ∷ []) (read ∙ c .enum-told3 .given .1), length-append (atOf r .part) (a .args .b ∷ [])))
+    let own-is = own-list r (a .pre .1) (open-part r (a .pre .1)) (a .args .b) in
+    let read = ap readChar (sym own-is) ∙ sym (c .before .before .read-char .ensures) in
+    let own = atOf r .part ++ a .args .b ∷ [] in
+    absurd (omega (arith, end-length own (read ∙ c .enum-told3 .given .1), length-append (atOf r .part) (a .args .b ∷ [])))
 
 pub take-byte-spec : {M : Type 1} → statement M
-take-byte-spec = tie.close (tie.spec array-read-t14 array-read-t17 array-read-t20 array-write-own add-own array-share-prefix-own slice-aggregate-read-char read-char-requires enum-known-value take-char-requires enum-told slice-aggregate-keep-byte add-keep-byte keep-byte-requires enum-told-2 enum-told-3 same-length same-length-2 returns returns-2 returns-3 returns-4)
+take-byte-spec =
+    tie.close
+    (tie.spec
+    array-read-t14
+    array-read-t17
+    array-read-t20
+    array-write-own
+    add-own
+    array-share-prefix-own
+    slice-aggregate-read-char
+    read-char-requires
+    enum-known-value
+    take-char-requires
+    enum-told
+    slice-aggregate-keep-byte
+    add-keep-byte
+    keep-byte-requires
+    enum-told-2
+    enum-told-3
+    same-length
+    same-length-2
+    returns
+    returns-2
+    returns-3
+    returns-4)

@@ -1,8 +1,5 @@
-use Prim.Native.Nat.{suc, _+_, _≤_, _<_}
-use mathlib.Core.Path.{_≡_, sym, _∙_, ap}
+use mathlib.Core.Path.{sym, _∙_}
 use native.Mathlib.Omega.{arith}
-use native.Mathlib.Numerals.{add-one}
-use lib.ListN.{length, length-take}
 use borrow.Author.Needs.{needs}
 use Rattle.decoder.proofs.Releasing.{open-fit, part-long, char-stops, char-goes}
 use Rattle.decoder.proofs.feeding.take_char.Statement.{statement}
@@ -24,9 +21,15 @@ same-length-2 c = search needs
 
 returns : tie.Need-returns
 returns c =
-    let a = c .before .before .before .before .before .before .before .before .before .before .before .before .before in
-    let p = c .before .before .before .before .put-stop .ensures in
-    (char-stops (a .args .«record») (a .pre .1) (a .args .c) (c .before .before .before .before .before .before .before .before .calls-for .ensures) (c .before .before .before .before .before .before .before .if1 .taken) (p .0), p .1, p .2)
+    let far = c .before .before .before .before .before .before .before .before .before .before in
+    let a = far .before .before .before in
+    let p = c .before .before .before .before .put-stop .ensures in (
+      char-stops (a .args .«record») (a .pre .1) (a .args .c)
+          (c .before .before .before .before .before .before .before .before .calls-for .ensures)
+          (c .before .before .before .before .before .before .before .if1 .taken) (p .0),
+      p .1,
+      p .2,
+    )
 
 cast-p : tie.Need-cast-p
 cast-p c = let a = c .before .before .before .before .before .before .before in omega (arith, part-long (a .args .«record») (a .pre .1))
@@ -40,7 +43,9 @@ meet-requires c κs =
     (a .pre .0, open-fit (a .args .«record») (a .pre .1), a .pre .3, a .pre .4)
 
 add-t21 : tie.Need-add-t21
-add-t21 c = omega (arith, c .before .before .before .before .before .before .before .before .before .before .before .before .before .before .before .pre .2)
+add-t21 c =
+    let far = c .before .before .before .before .before .before .before .before .before .before in
+    omega (arith, far .before .before .before .before .before .pre .2)
 
 same-length-3 : tie.Need-same-length-3
 same-length-3 c = search needs
@@ -50,9 +55,29 @@ same-length-4 c = search needs
 
 returns-2 : tie.Need-returns-2
 returns-2 c =
-    let a = c .before .before .before .before .before .before .before .before .before .before .before .before .before .before .before in
-    let m = c .before .before .before .before .before .meet .ensures in
-    (char-goes (a .args .«record») (a .pre .1) (a .args .c) (sym (c .before .before .before .before .before .before .before .before .before .before .calls-for .ensures) ∙ c .before .before .before .before .before .before .before .before .before .if1 .left) (m .0) (m .1), m .2, m .3)
+    let far = c .before .before .before .before .before .before .before .before .before .before in
+    let a = far .before .before .before .before .before in
+    let m = c .before .before .before .before .before .meet .ensures in (
+      char-goes (a .args .«record») (a .pre .1) (a .args .c) (sym
+          (c .before .before .before .before .before .before .before .before .before .before .calls-for .ensures)
+          ∙ c .before .before .before .before .before .before .before .before .before .if1 .left) (m .0) (m .1),
+      m .2,
+      m .3,
+    )
 
 pub take-char-spec : {M : Type 1} → statement M
-take-char-spec = tie.close (tie.spec calls-for-requires put-stop-requires same-length same-length-2 returns cast-p sub-p meet-requires add-t21 same-length-3 same-length-4 returns-2)
+take-char-spec =
+    tie.close
+    (tie.spec
+    calls-for-requires
+    put-stop-requires
+    same-length
+    same-length-2
+    returns
+    cast-p
+    sub-p
+    meet-requires
+    add-t21
+    same-length-3
+    same-length-4
+    returns-2)

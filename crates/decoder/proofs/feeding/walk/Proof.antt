@@ -1,10 +1,9 @@
 -- The invariant: the record and the rooms are those of a walk over the bytes so far that took them all.
-use Prim.Native.Nat.{_-_, _≤_, _<_}
-use mathlib.Core.Path.{_≡_, sym, _∙_}
+use Prim.Native.Nat.{_-_}
+use mathlib.Core.Path.{_∙_}
 use mathlib.Core.Logic.{inl, inr}
 use native.Mathlib.Omega.{arith}
 use lib.ListN.{length}
-use borrow.Author.Needs.{needs}
 use Rattle.standard.proofs.Puts.{put-length}
 use Rattle.decoder.proofs.Taking.{
   Taken,
@@ -38,48 +37,82 @@ skim-on-requires c κs =
     (taken-open (l .inv), omega (arith, count), omega (arith, count, short), l .inv .there, l .inv .text-in, l .inv .errors-in)
 
 same-length : tie.Need-same-length Inv-loop μ-loop
-same-length c = taken-room (taken-moves (c .before .before .before .before .before .before .before .before .before .before .loop .inv) (c .before .before .before .before .before .before .skim-on .ensures)) .0
+same-length c =
+    let t = c .before .before .before .before .before .before in
+    let m = taken-moves (t .before .before .before .before .loop .inv) (t .skim-on .ensures) in
+    taken-room m .0
 
 same-length-2 : tie.Need-same-length-2 Inv-loop μ-loop
-same-length-2 c = taken-room (taken-moves (c .before .before .before .before .before .before .before .before .before .before .loop .inv) (c .before .before .before .before .before .before .skim-on .ensures)) .1
+same-length-2 c =
+    let t = c .before .before .before .before .before .before in
+    let m = taken-moves (t .before .before .before .before .loop .inv) (t .skim-on .ensures) in
+    taken-room m .1
 
 returns : tie.Need-returns Inv-loop μ-loop
-returns c = taken-all (taken-moves (c .before .before .before .before .before .before .before .before .before .before .loop .inv) (c .before .before .before .before .before .before .skim-on .ensures)) (omega (arith, c .if1 .taken))
+returns c =
+    let t = c .before .before .before .before .before .before in
+    let m = taken-moves (t .before .before .before .before .loop .inv) (t .skim-on .ensures) in
+    taken-all m (omega (arith, c .if1 .taken))
 
 sub-if2 : tie.Need-sub-if2 Inv-loop μ-loop
-sub-if2 c = omega (arith, taken-moves (c .before .before .before .before .before .before .before .before .before .before .loop .inv) (c .before .before .before .before .before .before .skim-on .ensures) .text-in)
+sub-if2 c =
+    let t = c .before .before .before .before .before .before in
+    let m = taken-moves (t .before .before .before .before .loop .inv) (t .skim-on .ensures) in
+    omega (arith, m .text-in)
 
 same-length-3 : tie.Need-same-length-3 Inv-loop μ-loop
-same-length-3 c = taken-room (taken-moves (c .before .before .before .before .before .before .before .before .before .before .before .loop .inv) (c .before .before .before .before .before .before .before .skim-on .ensures)) .0
+same-length-3 c =
+    let t = c .before .before .before .before .before .before .before in
+    let m = taken-moves (t .before .before .before .before .loop .inv) (t .skim-on .ensures) in
+    taken-room m .0
 
 same-length-4 : tie.Need-same-length-4 Inv-loop μ-loop
-same-length-4 c = taken-room (taken-moves (c .before .before .before .before .before .before .before .before .before .before .before .loop .inv) (c .before .before .before .before .before .before .before .skim-on .ensures)) .1
+same-length-4 c =
+    let t = c .before .before .before .before .before .before .before in
+    let m = taken-moves (t .before .before .before .before .loop .inv) (t .skim-on .ensures) in
+    taken-room m .1
 
 returns-2 : tie.Need-returns-2 Inv-loop μ-loop
 returns-2 c =
-    let m = taken-moves (c .before .before .before .before .before .before .before .before .before .before .before .loop .inv) (c .before .before .before .before .before .before .before .skim-on .ensures) in taken-full m (omega (arith, m .there, c .before .if1 .left)) (inl (omega arith))
+    let t = c .before .before .before .before .before .before .before in
+    let m = taken-moves (t .before .before .before .before .loop .inv) (t .skim-on .ensures) in
+    taken-full m (omega (arith, m .there, c .before .if1 .left)) (inl (omega arith))
 
 sub-if3 : tie.Need-sub-if3 Inv-loop μ-loop
-sub-if3 c = omega (arith, taken-moves (c .before .before .before .before .before .before .before .before .before .before .before .loop .inv) (c .before .before .before .before .before .before .before .skim-on .ensures) .errors-in)
+sub-if3 c =
+    let t = c .before .before .before .before .before .before .before in
+    let m = taken-moves (t .before .before .before .before .loop .inv) (t .skim-on .ensures) in
+    omega (arith, m .errors-in)
 
 same-length-5 : tie.Need-same-length-5 Inv-loop μ-loop
-same-length-5 c = taken-room (taken-moves (c .before .before .before .before .before .before .before .before .before .before .before .before .loop .inv) (c .before .before .before .before .before .before .before .before .skim-on .ensures)) .0
+same-length-5 c =
+    let t = c .before .before .before .before .before .before .before .before in
+    let m = taken-moves (t .before .before .before .before .loop .inv) (t .skim-on .ensures) in
+    taken-room m .0
 
 same-length-6 : tie.Need-same-length-6 Inv-loop μ-loop
-same-length-6 c = taken-room (taken-moves (c .before .before .before .before .before .before .before .before .before .before .before .before .loop .inv) (c .before .before .before .before .before .before .before .before .skim-on .ensures)) .1
+same-length-6 c =
+    let t = c .before .before .before .before .before .before .before .before in
+    let m = taken-moves (t .before .before .before .before .loop .inv) (t .skim-on .ensures) in
+    taken-room m .1
 
 returns-3 : tie.Need-returns-3 Inv-loop μ-loop
 returns-3 c =
-    let m = taken-moves (c .before .before .before .before .before .before .before .before .before .before .before .before .loop .inv) (c .before .before .before .before .before .before .before .before .skim-on .ensures) in taken-full m (omega (arith, m .there, c .before .before .if1 .left)) (inr (omega arith))
+    let t = c .before .before .before .before .before .before .before .before in
+    let m = taken-moves (t .before .before .before .before .loop .inv) (t .skim-on .ensures) in
+    taken-full m (omega (arith, m .there, c .before .before .if1 .left)) (inr (omega arith))
 
 shared-slice-read-take-byte : tie.Need-shared-slice-read-take-byte Inv-loop μ-loop
 shared-slice-read-take-byte c =
-    let m = taken-moves (c .before .before .before .before .before .before .before .before .before .before .before .before .before .loop .inv) (c .before .before .before .before .before .before .before .before .before .skim-on .ensures) in omega (arith, m .there, c .before .before .before .if1 .left)
+    let t = c .before .before .before .before .before .before .before .before .before in
+    let m = taken-moves (t .before .before .before .before .loop .inv) (t .skim-on .ensures) in
+    omega (arith, m .there, c .before .before .before .if1 .left)
 
 take-byte-requires : tie.Need-take-byte-requires Inv-loop μ-loop
 take-byte-requires c κs =
-    let a = c .before .before .before .before .before .before .before .before .before .before .before .before .before .before .before .before .before .before .before .before in
-    let m = taken-moves (c .before .before .before .before .before .before .before .before .before .before .before .before .before .before .before .loop .inv) (c .before .before .before .before .before .before .before .before .before .before .before .skim-on .ensures) in (
+    let t = c .before .before .before .before .before .before .before .before .before .before .before in
+    let m = taken-moves (t .before .before .before .before .loop .inv) (t .skim-on .ensures) in
+    let a = t .before .before .before .before .before .before .before .before .before in (
       a .pre .0,
       taken-open m,
       omega (arith, taken-count m, a .pre .2, m .there, c .before .before .before .before .before .if1 .left),
@@ -88,30 +121,50 @@ take-byte-requires c κs =
     )
 
 same-length-7 : tie.Need-same-length-7 Inv-loop μ-loop
-same-length-7 c = put-length (c .before .before .before .before .before .before .take-byte .ensures .0 .wrote .texts) ∙ taken-room (taken-moves (c .before .before .before .before .before .before .before .before .before .before .before .before .before .before .before .before .before .before .before .before .before .before .loop .inv) (c .before .before .before .before .before .before .before .before .before .before .before .before .before .before .before .before .before .before .skim-on .ensures)) .0
+same-length-7 c =
+    let far = c .before .before .before .before .before .before .before .before .before .before in
+    let t = far .before .before .before .before .before .before .before .before in
+    let m = taken-moves (t .before .before .before .before .loop .inv) (t .skim-on .ensures) in
+    put-length (c .before .before .before .before .before .before .take-byte .ensures .0 .wrote .texts) ∙ taken-room m .0
 
 same-length-8 : tie.Need-same-length-8 Inv-loop μ-loop
-same-length-8 c = put-length (c .before .before .before .before .before .before .take-byte .ensures .0 .wrote .numbers-of) ∙ taken-room (taken-moves (c .before .before .before .before .before .before .before .before .before .before .before .before .before .before .before .before .before .before .before .before .before .before .loop .inv) (c .before .before .before .before .before .before .before .before .before .before .before .before .before .before .before .before .before .before .skim-on .ensures)) .1
+same-length-8 c =
+    let far = c .before .before .before .before .before .before .before .before .before .before in
+    let t = far .before .before .before .before .before .before .before .before in
+    let m = taken-moves (t .before .before .before .before .loop .inv) (t .skim-on .ensures) in
+    put-length (c .before .before .before .before .before .before .take-byte .ensures .0 .wrote .numbers-of) ∙ taken-room m .1
 
 returns-4 : tie.Need-returns-4 Inv-loop μ-loop
 returns-4 c =
-    let m = taken-moves (c .before .before .before .before .before .before .before .before .before .before .before .before .before .before .before .before .before .before .before .before .before .before .loop .inv) (c .before .before .before .before .before .before .before .before .before .before .before .before .before .before .before .before .before .before .skim-on .ensures) in
-    taken-stop m (omega (arith, m .there, c .before .before .before .before .before .before .before .before .before .before .before .before .if1 .left)) (omega (arith, m .text-in, c .before .before .before .before .before .before .before .before .before .before .before .if2 .left))
-    (omega (arith, m .errors-in, c .before .before .before .before .before .before .before .before .before .before .if3 .left)) (c .before .before .before .before .before .before .take-byte .ensures) (c .if4 .taken)
+    let far = c .before .before .before .before .before .before .before .before .before .before in
+    let t = far .before .before .before .before .before .before .before .before in
+    let m = taken-moves (t .before .before .before .before .loop .inv) (t .skim-on .ensures) in
+    let i = c .before .before .before .before .before .before .before .before .before .before in
+    taken-stop m (omega (arith, m .there, i .before .before .if1 .left)) (omega (arith, m .text-in, i .before .if2 .left))
+    (omega (arith, m .errors-in, i .if3 .left)) (c .before .before .before .before .before .before .take-byte .ensures) (c .if4 .taken)
 
 add-at : tie.Need-add-at Inv-loop μ-loop
 add-at c =
-    let m = taken-moves (c .before .before .before .before .before .before .before .before .before .before .before .before .before .before .before .before .before .before .before .before .before .before .before .loop .inv) (c .before .before .before .before .before .before .before .before .before .before .before .before .before .before .before .before .before .before .before .skim-on .ensures) in omega (arith, m .there, c .before .before .before .before .before .before .before .before .before .before .before .before .before .before .before .before .before .before .before .before .before .before .before .before .before .before .before .before .pre .2)
+    let far = c .before .before .before .before .before .before .before .before .before .before in
+    let t = far .before .before .before .before .before .before .before .before .before in
+    let m = taken-moves (t .before .before .before .before .loop .inv) (t .skim-on .ensures) in
+    omega (arith, m .there, t .before .before .before .before .before .before .before .before .before .pre .2)
 
 loop-less : tie.Need-loop-less Inv-loop μ-loop
 loop-less c =
-    let m = taken-moves (c .before .before .before .before .before .before .before .before .before .before .before .before .before .before .before .before .before .before .before .before .before .before .before .loop .inv) (c .before .before .before .before .before .before .before .before .before .before .before .before .before .before .before .before .before .before .before .skim-on .ensures) in omega (arith, m .there, c .before .before .before .before .before .before .before .before .before .before .before .before .before .if1 .left, c .before .before .before .before .before .before .before .before .before .before .before .before .before .before .before .before .before .before .before .skim-on .ensures .onward)
+    let far = c .before .before .before .before .before .before .before .before .before .before in
+    let t = far .before .before .before .before .before .before .before .before .before in
+    let m = taken-moves (t .before .before .before .before .loop .inv) (t .skim-on .ensures) in
+    omega (arith, m .there, far .before .before .before .if1 .left, t .skim-on .ensures .onward)
 
 loop-again : tie.Need-loop-again Inv-loop μ-loop
 loop-again c =
-    let m = taken-moves (c .before .before .before .before .before .before .before .before .before .before .before .before .before .before .before .before .before .before .before .before .before .before .before .loop .inv) (c .before .before .before .before .before .before .before .before .before .before .before .before .before .before .before .before .before .before .before .skim-on .ensures) in
-    taken-byte m (omega (arith, m .there, c .before .before .before .before .before .before .before .before .before .before .before .before .before .if1 .left)) (omega (arith, m .text-in, c .before .before .before .before .before .before .before .before .before .before .before .before .if2 .left))
-    (omega (arith, m .errors-in, c .before .before .before .before .before .before .before .before .before .before .before .if3 .left)) (c .before .before .before .before .before .before .before .take-byte .ensures) (c .before .if4 .left)
+    let far = c .before .before .before .before .before .before .before .before .before .before in
+    let t = far .before .before .before .before .before .before .before .before .before in
+    let m = taken-moves (t .before .before .before .before .loop .inv) (t .skim-on .ensures) in
+    let i = c .before .before .before .before .before .before .before .before .before .before .before in
+    taken-byte m (omega (arith, m .there, i .before .before .if1 .left)) (omega (arith, m .text-in, i .before .if2 .left))
+    (omega (arith, m .errors-in, i .if3 .left)) (c .before .before .before .before .before .before .before .take-byte .ensures) (c .before .if4 .left)
 
 same-length-9 : tie.Need-same-length-9 Inv-loop μ-loop
 same-length-9 c = taken-room (c .before .loop .inv) .0
@@ -123,4 +176,32 @@ returns-5 : tie.Need-returns-5 Inv-loop μ-loop
 returns-5 c = taken-all (c .before .loop .inv) (omega (arith, c .loop-test .left))
 
 pub walk-spec : {M : Type 1} → statement M
-walk-spec = tie.close (tie.spec Inv-loop μ-loop loop-holds skim-on-requires same-length same-length-2 returns sub-if2 same-length-3 same-length-4 returns-2 sub-if3 same-length-5 same-length-6 returns-3 shared-slice-read-take-byte take-byte-requires same-length-7 same-length-8 returns-4 add-at loop-less loop-again same-length-9 same-length-10 returns-5)
+walk-spec =
+    tie.close
+    (tie.spec
+    Inv-loop
+    μ-loop
+    loop-holds
+    skim-on-requires
+    same-length
+    same-length-2
+    returns
+    sub-if2
+    same-length-3
+    same-length-4
+    returns-2
+    sub-if3
+    same-length-5
+    same-length-6
+    returns-3
+    shared-slice-read-take-byte
+    take-byte-requires
+    same-length-7
+    same-length-8
+    returns-4
+    add-at
+    loop-less
+    loop-again
+    same-length-9
+    same-length-10
+    returns-5)

@@ -1,7 +1,6 @@
 use mathlib.Core.Path.{sym, _∙_}
 use mathlib.Core.Logic.{inl, inr}
 use borrow.Author.Needs.{needs}
-use borrow.Author.Tests.{ne-eqb}
 use Rattle.decoder.proofs.SkimLaws.{stands-alone}
 use Rattle.decoder.proofs.skimming.alone.Statement.{statement}
 use Rattle.decoder.proofs.skimming.alone.Tie as tie
@@ -47,8 +46,27 @@ one-requires c κs = search needs
 
 returns-5 : tie.Need-returns-5
 returns-5 c =
-    inr (stands-alone (sym (c .before .before .before .before .before .before .before .before .before .read-char .ensures) ∙ c .before .before .before .before .before .before .before .value .given .1) (sym (c .before .before .before .calls-for .ensures) ∙ c .before .before .if3 .left) (c .before .before .before .before .before .if1 .left)
-    (c .before .before .before .before .if2 .left) (c .before .character-code .ensures) (c .one .ensures))
+    let i = c .before .before .before .before .before in
+    let v = i .before .before in
+    let read = sym (v .before .before .read-char .ensures) ∙ v .value .given .1 in
+    let calls = sym (c .before .before .before .calls-for .ensures) ∙ c .before .before .if3 .left in
+    inr (stands-alone read calls (i .if1 .left) (c .before .before .before .before .if2 .left) (c .before .character-code .ensures) (c .one .ensures))
 
 pub alone-spec : {M : Type 1} → statement M
-alone-spec = tie.close (tie.spec read-char-requires enum-known-value none-requires returns none-requires-2 returns-2 none-requires-3 returns-3 calls-for-requires none-requires-4 returns-4 character-code-requires one-requires returns-5)
+alone-spec =
+    tie.close
+    (tie.spec
+    read-char-requires
+    enum-known-value
+    none-requires
+    returns
+    none-requires-2
+    returns-2
+    none-requires-3
+    returns-3
+    calls-for-requires
+    none-requires-4
+    returns-4
+    character-code-requires
+    one-requires
+    returns-5)

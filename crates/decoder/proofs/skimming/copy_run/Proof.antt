@@ -1,6 +1,6 @@
 use Prim.Native.Nat.{_-_}
 use native.Mathlib.Omega.{arith}
-use lib.ListN.{length, take, length-take}
+use lib.ListN.{length, length-take}
 use borrow.Author.Needs.{needs}
 use Rattle.rooms.proofs.Fits.{copy-fits}
 use Rattle.decoder.proofs.SkimLaws.{run-runs, run-length}
@@ -55,4 +55,19 @@ returns c =
     (run, copy-fits (omega (arith, run-length run, a .pre .1)) (c .before .before .copy .ensures))
 
 pub copy-run-spec : {M : Type 1} → statement M
-copy-run-spec = tie.close (tie.spec sub-free sub-free-2 sub-least least-requires add-plain-run slice-aggregate-plain-run plain-run-requires sub-copy part-copy-start part-copy-end copy-requires same-length returns)
+copy-run-spec =
+    tie.close
+    (tie.spec
+    sub-free
+    sub-free-2
+    sub-least
+    least-requires
+    add-plain-run
+    slice-aggregate-plain-run
+    plain-run-requires
+    sub-copy
+    part-copy-start
+    part-copy-end
+    copy-requires
+    same-length
+    returns)

@@ -1,12 +1,10 @@
 -- The invariant: the bytes so far were read with nothing held before and after, and what they give was written.
-use Prim.Native.Nat.{_-_, _≤_, _<_}
-use mathlib.Core.Path.{_≡_, _∙_}
+use Prim.Native.Nat.{_-_}
 use native.Mathlib.Omega.{arith}
-use lib.ListN.{length, length-drop}
+use lib.ListN.{length}
 use borrow.Author.Needs.{needs}
-use Rattle.standard.proofs.Puts.{put-length}
 use Rattle.standard.proofs.Skips.{rest-from}
-use Rattle.decoder.specs.Skims.{Skims, Alone}
+use Rattle.decoder.specs.Skims.{Skims}
 use Rattle.decoder.proofs.SkimLaws.{skims-start, skims-room, skims-run, skims-alone, alone-stands}
 use Rattle.decoder.proofs.skimming.skim.Statement.{statement}
 use Rattle.decoder.proofs.skimming.skim.Tie as tie
@@ -46,19 +44,43 @@ returns-2 : tie.Need-returns-2 Inv-loop μ-loop
 returns-2 c = c .before .before .before .loop .inv
 
 copy-run-requires : tie.Need-copy-run-requires Inv-loop μ-loop
-copy-run-requires c κs = (c .before .before .before .before .loop .inv .there, omega (arith, c .before .before .before .before .loop .inv .text-in, c .before .before .if1 .left))
+copy-run-requires c κs = let l = c .before .before .before .before .loop in (
+  l .inv .there,
+  omega
+      (arith, l .inv .text-in, c .before .before .if1 .left),
+)
 
 sub-if3 : tie.Need-sub-if3 Inv-loop μ-loop
-sub-if3 c = omega (arith, skims-run (c .before .before .before .before .before .before .before .loop .inv) _ (omega (arith, c .before .before .before .before .if2 .left)) (c .before .before .copy-run .ensures .0) (c .before .before .copy-run .ensures .1) .text-in)
+sub-if3 c =
+    let r = c .before .before in
+    let i = r .before .before in
+    let l = i .before .before .before .loop in
+    let k = skims-run (l .inv) _ (omega (arith, i .if2 .left)) (r .copy-run .ensures .0) (r .copy-run .ensures .1) in
+    omega (arith, k .text-in)
 
 same-length-5 : tie.Need-same-length-5 Inv-loop μ-loop
-same-length-5 c = skims-room (skims-run (c .before .before .before .before .before .before .before .before .loop .inv) _ (omega (arith, c .before .before .before .before .before .if2 .left)) (c .before .before .before .copy-run .ensures .0) (c .before .before .before .copy-run .ensures .1)) .0
+same-length-5 c =
+    let r = c .before .before .before in
+    let i = r .before .before in
+    let l = i .before .before .before .loop in
+    let k = skims-run (l .inv) _ (omega (arith, i .if2 .left)) (r .copy-run .ensures .0) (r .copy-run .ensures .1) in
+    skims-room k .0
 
 same-length-6 : tie.Need-same-length-6 Inv-loop μ-loop
-same-length-6 c = skims-room (skims-run (c .before .before .before .before .before .before .before .before .loop .inv) _ (omega (arith, c .before .before .before .before .before .if2 .left)) (c .before .before .before .copy-run .ensures .0) (c .before .before .before .copy-run .ensures .1)) .1
+same-length-6 c =
+    let r = c .before .before .before in
+    let i = r .before .before in
+    let l = i .before .before .before .loop in
+    let k = skims-run (l .inv) _ (omega (arith, i .if2 .left)) (r .copy-run .ensures .0) (r .copy-run .ensures .1) in
+    skims-room k .1
 
 returns-3 : tie.Need-returns-3 Inv-loop μ-loop
-returns-3 c = skims-run (c .before .before .before .before .before .before .before .before .loop .inv) _ (omega (arith, c .before .before .before .before .before .if2 .left)) (c .before .before .before .copy-run .ensures .0) (c .before .before .before .copy-run .ensures .1)
+returns-3 c =
+    let r = c .before .before .before in
+    let i = r .before .before in
+    let l = i .before .before .before .loop in
+    let k = skims-run (l .inv) _ (omega (arith, i .if2 .left)) (r .copy-run .ensures .0) (r .copy-run .ensures .1) in
+    k
 
 sub-alone : tie.Need-sub-alone Inv-loop μ-loop
 sub-alone c = c .before .before .before .copy-run .ensures .0 .there
@@ -73,47 +95,91 @@ alone-requires : tie.Need-alone-requires Inv-loop μ-loop
 alone-requires c κs = search needs
 
 same-length-7 : tie.Need-same-length-7 Inv-loop μ-loop
-same-length-7 c = skims-room (skims-run (c .before .before .before .before .before .before .before .before .before .before .before .before .loop .inv) _ (omega (arith, c .before .before .before .before .before .before .before .before .before .if2 .left)) (c .before .before .before .before .before .before .before .copy-run .ensures .0) (c .before .before .before .before .before .before .before .copy-run .ensures .1)) .0
+same-length-7 c =
+    let r = c .before .before .before .before .before .before .before in
+    let i = r .before .before in
+    let l = i .before .before .before .loop in
+    let k = skims-run (l .inv) _ (omega (arith, i .if2 .left)) (r .copy-run .ensures .0) (r .copy-run .ensures .1) in
+    skims-room k .0
 
 same-length-8 : tie.Need-same-length-8 Inv-loop μ-loop
-same-length-8 c = skims-room (skims-run (c .before .before .before .before .before .before .before .before .before .before .before .before .loop .inv) _ (omega (arith, c .before .before .before .before .before .before .before .before .before .if2 .left)) (c .before .before .before .before .before .before .before .copy-run .ensures .0) (c .before .before .before .before .before .before .before .copy-run .ensures .1)) .1
+same-length-8 c =
+    let r = c .before .before .before .before .before .before .before in
+    let i = r .before .before in
+    let l = i .before .before .before .loop in
+    let k = skims-run (l .inv) _ (omega (arith, i .if2 .left)) (r .copy-run .ensures .0) (r .copy-run .ensures .1) in
+    skims-room k .1
 
 returns-4 : tie.Need-returns-4 Inv-loop μ-loop
-returns-4 c = skims-run (c .before .before .before .before .before .before .before .before .before .before .before .before .loop .inv) _ (omega (arith, c .before .before .before .before .before .before .before .before .before .if2 .left)) (c .before .before .before .before .before .before .before .copy-run .ensures .0) (c .before .before .before .before .before .before .before .copy-run .ensures .1)
+returns-4 c =
+    let r = c .before .before .before .before .before .before .before in
+    let i = r .before .before in
+    let l = i .before .before .before .loop in
+    let k = skims-run (l .inv) _ (omega (arith, i .if2 .left)) (r .copy-run .ensures .0) (r .copy-run .ensures .1) in
+    k
 
 cast-put-piece : tie.Need-cast-put-piece Inv-loop μ-loop
-cast-put-piece c = omega (arith, c .before .before .before .before .before .before .before .before .before .copy-run .ensures .0 .there, c .before .before .before .before .before .before .before .before .before .before .before .before .before .before .before .before .before .before .pre .0)
+cast-put-piece c =
+    let r = c .before .before .before .before .before .before .before .before .before in
+    omega (arith, r .copy-run .ensures .0 .there, r .before .before .before .before .before .before .before .before .before .pre .0)
 
 add-put-piece : tie.Need-add-put-piece Inv-loop μ-loop
-add-put-piece c = omega (arith, c .before .before .before .before .before .before .before .before .before .copy-run .ensures .0 .there, c .before .before .before .before .before .before .before .before .before .before .before .before .before .before .before .before .before .before .pre .0)
+add-put-piece c =
+    let r = c .before .before .before .before .before .before .before .before .before in
+    omega (arith, r .copy-run .ensures .0 .there, r .before .before .before .before .before .before .before .before .before .pre .0)
 
 put-piece-requires : tie.Need-put-piece-requires Inv-loop μ-loop
 put-piece-requires c κs =
-    let k = skims-run (c .before .before .before .before .before .before .before .before .before .before .before .before .before .before .loop .inv) _ (omega (arith, c .before .before .before .before .before .before .before .before .before .before .before .if2 .left)) (c .before .before .before .before .before .before .before .before .before .copy-run .ensures .0) (c .before .before .before .before .before .before .before .before .before .copy-run .ensures .1) in
-    (omega (arith, k .text-in, c .before .before .before .before .before .before .if3 .left), omega (arith, k .errors-in, c .before .before .before .before .before .before .before .before .before .before .before .if2 .left))
+    let r = c .before .before .before .before .before .before .before .before .before in
+    let i = r .before .before in
+    let l = i .before .before .before .loop in
+    let k = skims-run (l .inv) _ (omega (arith, i .if2 .left)) (r .copy-run .ensures .0) (r .copy-run .ensures .1) in
+    (omega (arith, k .text-in, c .before .before .before .before .before .before .if3 .left), omega (arith, k .errors-in, i .if2 .left))
 
 add-at : tie.Need-add-at Inv-loop μ-loop
 add-at c =
-    let k = skims-run (c .before .before .before .before .before .before .before .before .before .before .before .before .before .before .before .before .before .before .before .before .loop .inv) _ (omega (arith, c .before .before .before .before .before .before .before .before .before .before .before .before .before .before .before .before .before .if2 .left)) (c .before .before .before .before .before .before .before .before .before .before .before .before .before .before .before .copy-run .ensures .0) (c .before .before .before .before .before .before .before .before .before .before .before .before .before .before .before .copy-run .ensures .1) in
-    let a = alone-stands _ (rw rest-from at (c .before .before .before .before .before .before .before .before .before .before .alone .ensures)) (c .before .before .before .before .before .before .before .before .if4 .left) in
+    let far = c .before .before .before .before .before .before .before .before .before .before in
+    let r = far .before .before .before .before .before in
+    let i = r .before .before in
+    let l = i .before .before .before .loop in
+    let k = skims-run (l .inv) _ (omega (arith, i .if2 .left)) (r .copy-run .ensures .0) (r .copy-run .ensures .1) in
+    let f = c .before .before .before .before .before .before .before .before in
+    let u = f .before .before in
+    let a = alone-stands _ (rw rest-from at (u .alone .ensures)) (f .if4 .left) in
     let p = c .before .before .before .before .before .put-piece .ensures in
-    let s = skims-alone k (c .before .before .before .before .before .before .before .before .before .before .alone .result) (omega (arith, c .before .before .before .before .before .before .before .before .before .before .before .before .if3 .left)) (omega (arith, c .before .before .before .before .before .before .before .before .before .before .before .before .before .before .before .before .before .if2 .left)) a (p .0) (p .1) (p .2) in
-    omega (arith, s .there, c .before .before .before .before .before .before .before .before .before .before .before .before .before .before .before .before .before .before .before .before .before .before .before .before .pre .0)
+    let free = u .before .before in
+    let s = skims-alone k (u .alone .result) (omega (arith, free .if3 .left)) (omega (arith, i .if2 .left)) a (p .0) (p .1) (p .2) in
+    omega (arith, s .there, r .before .before .before .before .before .before .before .before .before .pre .0)
 
 loop-less : tie.Need-loop-less Inv-loop μ-loop
 loop-less c =
-    let k = skims-run (c .before .before .before .before .before .before .before .before .before .before .before .before .before .before .before .before .before .before .before .before .loop .inv) _ (omega (arith, c .before .before .before .before .before .before .before .before .before .before .before .before .before .before .before .before .before .if2 .left)) (c .before .before .before .before .before .before .before .before .before .before .before .before .before .before .before .copy-run .ensures .0) (c .before .before .before .before .before .before .before .before .before .before .before .before .before .before .before .copy-run .ensures .1) in
-    let a = alone-stands _ (rw rest-from at (c .before .before .before .before .before .before .before .before .before .before .alone .ensures)) (c .before .before .before .before .before .before .before .before .if4 .left) in
+    let far = c .before .before .before .before .before .before .before .before .before .before in
+    let r = far .before .before .before .before .before in
+    let i = r .before .before in
+    let l = i .before .before .before .loop in
+    let k = skims-run (l .inv) _ (omega (arith, i .if2 .left)) (r .copy-run .ensures .0) (r .copy-run .ensures .1) in
+    let f = c .before .before .before .before .before .before .before .before in
+    let u = f .before .before in
+    let a = alone-stands _ (rw rest-from at (u .alone .ensures)) (f .if4 .left) in
     let p = c .before .before .before .before .before .put-piece .ensures in
-    let s = skims-alone k (c .before .before .before .before .before .before .before .before .before .before .alone .result) (omega (arith, c .before .before .before .before .before .before .before .before .before .before .before .before .if3 .left)) (omega (arith, c .before .before .before .before .before .before .before .before .before .before .before .before .before .before .before .before .before .if2 .left)) a (p .0) (p .1) (p .2) in
-    omega (arith, s .there, c .before .before .before .before .before .before .before .before .before .before .before .before .before .before .before .copy-run .ensures .0 .from, c .before .before .before .before .before .before .before .before .if4 .left)
+    let free = u .before .before in
+    let s = skims-alone k (u .alone .result) (omega (arith, free .if3 .left)) (omega (arith, i .if2 .left)) a (p .0) (p .1) (p .2) in
+    omega (arith, s .there, r .copy-run .ensures .0 .from, f .if4 .left)
 
 loop-again : tie.Need-loop-again Inv-loop μ-loop
 loop-again c =
-    let k = skims-run (c .before .before .before .before .before .before .before .before .before .before .before .before .before .before .before .before .before .before .before .before .loop .inv) _ (omega (arith, c .before .before .before .before .before .before .before .before .before .before .before .before .before .before .before .before .before .if2 .left)) (c .before .before .before .before .before .before .before .before .before .before .before .before .before .before .before .copy-run .ensures .0) (c .before .before .before .before .before .before .before .before .before .before .before .before .before .before .before .copy-run .ensures .1) in
-    let a = alone-stands _ (rw rest-from at (c .before .before .before .before .before .before .before .before .before .before .alone .ensures)) (c .before .before .before .before .before .before .before .before .if4 .left) in
+    let far = c .before .before .before .before .before .before .before .before .before .before in
+    let r = far .before .before .before .before .before in
+    let i = r .before .before in
+    let l = i .before .before .before .loop in
+    let k = skims-run (l .inv) _ (omega (arith, i .if2 .left)) (r .copy-run .ensures .0) (r .copy-run .ensures .1) in
+    let f = c .before .before .before .before .before .before .before .before in
+    let u = f .before .before in
+    let a = alone-stands _ (rw rest-from at (u .alone .ensures)) (f .if4 .left) in
     let p = c .before .before .before .before .before .put-piece .ensures in
-    skims-alone k (c .before .before .before .before .before .before .before .before .before .before .alone .result) (omega (arith, c .before .before .before .before .before .before .before .before .before .before .before .before .if3 .left)) (omega (arith, c .before .before .before .before .before .before .before .before .before .before .before .before .before .before .before .before .before .if2 .left)) a (p .0) (p .1) (p .2)
+    let free = u .before .before in
+    let s = skims-alone k (u .alone .result) (omega (arith, free .if3 .left)) (omega (arith, i .if2 .left)) a (p .0) (p .1) (p .2) in
+    s
 
 same-length-9 : tie.Need-same-length-9 Inv-loop μ-loop
 same-length-9 c = skims-room (c .before .loop .inv) .0
@@ -125,4 +191,38 @@ returns-5 : tie.Need-returns-5 Inv-loop μ-loop
 returns-5 c = c .before .loop .inv
 
 pub skim-spec : {M : Type 1} → statement M
-skim-spec = tie.close (tie.spec Inv-loop μ-loop loop-holds sub-if1 same-length same-length-2 returns sub-if2 same-length-3 same-length-4 returns-2 copy-run-requires sub-if3 same-length-5 same-length-6 returns-3 sub-alone part-alone-start part-alone-end alone-requires same-length-7 same-length-8 returns-4 cast-put-piece add-put-piece put-piece-requires add-at loop-less loop-again same-length-9 same-length-10 returns-5)
+skim-spec =
+    tie.close
+    (tie.spec
+    Inv-loop
+    μ-loop
+    loop-holds
+    sub-if1
+    same-length
+    same-length-2
+    returns
+    sub-if2
+    same-length-3
+    same-length-4
+    returns-2
+    copy-run-requires
+    sub-if3
+    same-length-5
+    same-length-6
+    returns-3
+    sub-alone
+    part-alone-start
+    part-alone-end
+    alone-requires
+    same-length-7
+    same-length-8
+    returns-4
+    cast-put-piece
+    add-put-piece
+    put-piece-requires
+    add-at
+    loop-less
+    loop-again
+    same-length-9
+    same-length-10
+    returns-5)

@@ -1,4 +1,4 @@
-use mathlib.Core.Path.{sym, _∙_, ap}
+use mathlib.Core.Path.{sym, _∙_}
 use borrow.Author.Tests.{eq-eqb}
 use Rattle.decoder.proofs.Quiet.{calls-end, calls-none}
 use borrow.Author.Needs.{needs}

@@ -1,6 +1,6 @@
 -- The invariant: the source stops where what is left from `at` on does.
 use Prim.Native.Nat.{_-_}
-use mathlib.Core.Path.{sym, _∙_, ap}
+use mathlib.Core.Path.{sym, ap}
 use native.Mathlib.Omega.{arith}
 use lib.ListN.{length}
 use Rattle.standard.specs.Reading.{Stop}

@@ -98,21 +98,24 @@ slice-aggregate-walk : tie.Need-slice-aggregate-walk
 slice-aggregate-walk c = search needs
 
 cleared-record-requires : tie.Need-cleared-record-requires
-cleared-record-requires c κs = let i = c .before .before .before .before .before .before .is-open in sym (i .ensures) ∙ not-false (i .result) (c .before .before .before .before .before .if1 .left)
+cleared-record-requires c κs = let i = c .before .before .before .before .before .before .is-open in sym (i .ensures) ∙ not-false (i .result)
+    (c .before .before .before .before .before .if1 .left)
 
 walk-requires : tie.Need-walk-requires
 walk-requires c κs =
+    let far = c .before .before .before .before .before .before .before .before .before .before in
     let i = c .before .before .before .before .before .before .before .before .before .is-open in
-    let r = c .before .before .before .before .before .before .before .before .before .before .before .before .before .before .before .args .self in
+    let r = far .before .before .before .before .before .args .self in
     let p = opened r (sym (i .ensures) ∙ not-false (i .result) (c .before .before .before .before .before .before .before .before .if1 .left)) in
     let is = c .before .before .cleared-record .ensures in
     (search needs, cleared-open r p is, omega (arith, cleared-taken r p is, c .before .before .before .before .before .before .if3 .left))
 
 walked-to-requires : tie.Need-walked-to-requires
 walked-to-requires c κs =
-    let i = c .before .before .before .before .before .before .before .before .before .before .before .before .before .before .is-open in
-    let r = c .before .before .before .before .before .before .before .before .before .before .before .before .before .before .before .before .before .before .before .before .args .self in
-    let p = opened r (sym (i .ensures) ∙ not-false (i .result) (c .before .before .before .before .before .before .before .before .before .before .before .before .before .if1 .left)) in
+    let far = c .before .before .before .before .before .before .before .before .before .before in
+    let i = far .before .before .before .before .is-open in
+    let r = far .before .before .before .before .before .before .before .before .before .before .args .self in
+    let p = opened r (sym (i .ensures) ∙ not-false (i .result) (far .before .before .before .if1 .left)) in
     let b = c .before .before .before .before .walk .ensures .1 in
     let short = c .before .before .before .before .before .before .before .before .before .before .before .before .if2 .left in (
       omega (arith, cleared-taken r p (c .before .before .before .before .before .before .before .cleared-record .ensures), b .onward),
@@ -129,11 +132,17 @@ same-length-2 c = search needs
 
 returns-6 : tie.Need-returns-6
 returns-6 c =
-    let i = c .before .before .before .before .before .before .before .before .before .before .before .before .before .before .before .is-open in
-    let a = c .before .before .before .before .before .before .before .before .before .before .before .before .before .before .before .before .before .before .before .before .before .args in
-    let o : isOpen builtin (a .self) ≡ true = sym (i .ensures) ∙ not-false (i .result) (c .before .before .before .before .before .before .before .before .before .before .before .before .before .before .if1 .left) in
-    rw (feed-walks _ _ _ o _ (c .before .before .before .before .before .before .before .before .before .before .before .before .before .if2 .left) (c .before .before .before .before .before .before .before .before .before .before .before .before .if3 .left) (c .before .before .before .before .before .before .before .before .before .before .before .if4 .left) (c .before .before .before .before .before .before .before .before .before .before .if5 .left))
-    (walk-feeds (cleared-walk (a .self) (opened (a .self) o) (c .before .before .before .before .before .before .before .before .cleared-record .ensures) (a .chunk .now) (c .before .before .before .before .before .walk .ensures .0)) _
+    let far = c .before .before .before .before .before .before .before .before .before .before in
+    let i = far .before .before .before .before .before .is-open in
+    let a = far .before .before .before .before .before .before .before .before .before .before .before .args in
+    let o : isOpen builtin (a .self) ≡ true = sym (i .ensures) ∙ not-false (i .result) (far .before .before .before .before .if1 .left) in
+    rw (feed-walks _ _ _ o _ (far .before .before .before .if2 .left)
+    (c .before .before .before .before .before .before .before .before .before .before .before .before .if3 .left)
+    (c .before .before .before .before .before .before .before .before .before .before .before .if4 .left)
+    (c .before .before .before .before .before .before .before .before .before .before .if5 .left))
+    (walk-feeds (cleared-walk (a .self) (opened (a .self) o)
+    (c .before .before .before .before .before .before .before .before .cleared-record .ensures) (a .chunk .now)
+    (c .before .before .before .before .before .walk .ensures .0)) _
     (c .walked-to .ensures))
 
 pub feed-spec : {M : Type 1} → statement M
