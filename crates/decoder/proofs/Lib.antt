@@ -30,3 +30,4 @@ pub mod TurnLaws
 pub mod Turning
 pub mod NameTurns
 pub mod SkimLaws
+pub mod ClosedReferences

@@ -1,29 +1,33 @@
 -- Laws of what is skimmed: runs of plain bytes and characters that stand for themselves, through the walk with nothing held.
-use Prim.Native.Nat.{ℕ, suc, _+_, _-_, _*_, _≤_, min}
+use Prim.Native.Nat.{ℕ, zero, suc, _+_, _-_, _*_, _≤_, _<_, min}
 use Prim.Native.Char.{code}
 use mathlib.Core.Path.{_≡_, refl, sym, _∙_, ap, ap₂, subst}
 use mathlib.Core.List.{List, [], _∷_, _++_}
-use mathlib.Core.Bool.{Bool, true, false}
+use mathlib.Core.Bool.{Bool, true, false, _||_}
 use mathlib.Core.Logic.{_≢_, inl, inr}
 use native.Mathlib.Omega.{arith}
 use lib.Dec.{eqb}
-use lib.ListN.{length, take, drop, length-take, length-drop, drop-of-length-le}
-use lib.Seq.{length-take-le, take-all, take-add, take-take, drop-at, drop-drop}
-use borrow.Author.Tests.{le-ltb, ne-eqb}
+use lib.ListN.{length, getD, take, drop, length-take, length-drop, drop-of-length-le}
+use lib.Seq.{getD-take, getD-drop, take-suc, length-take-le, take-all, take-add, take-take, drop-at, drop-drop}
+use borrow.Author.Tests.{le-ltb, eqb-true, ne-eqb}
 use Rattle.standard.specs.declared.Context.{Context}
+use Rattle.standard.specs.declared.Context.the-variants.{Text, Attribute}
 use Rattle.standard.specs.declared.characters.CharRead.the-variants.{Char}
 use Rattle.standard.specs.Notation.{if_then_else_, front, every}
 use Rattle.standard.specs.Utf8.{readChar}
 use Rattle.standard.specs.Answers.{done}
-use Rattle.standard.specs.Classes.{characterCode}
+use Rattle.standard.specs.Classes.{alphanumeric, characterCode}
 use Rattle.standard.specs.Errors.{listed, placed}
+use Rattle.standard.specs.Names.{Name, tableOf, records}
 use Rattle.standard.specs.NameList.{builtin}
 use Rattle.standard.specs.Pieces as standard
-use Rattle.standard.specs.Pieces.{character}
+use Rattle.standard.specs.Pieces.{character, pieceAt}
 use Rattle.standard.specs.Reading.{callsFor, Reading, reading, readingAt, _⊕_}
 use Rattle.standard.specs.Rooms.{Put, Wrote}
 use Rattle.standard.proofs.Ascii.{read-ascii}
-use Rattle.standard.proofs.Choice.{and-true}
+use Rattle.standard.proofs.BuiltinNames.{table-read}
+use Rattle.standard.proofs.Choice.{no-way, and-true}
+use Rattle.standard.proofs.Every.{All}
 use Rattle.standard.proofs.Fronts.{front-is-take, front-length}
 use Rattle.standard.proofs.Puts.{⊕-none, wrote-none, wrote-text, wrote-join, put-length, numbers-length}
 use Rattle.standard.proofs.Utf8.{read-end, read-length, read-take}
@@ -37,9 +41,12 @@ use Rattle.decoder.specs.Runs.{plain, endOf}
 use Rattle.decoder.specs.Stream.{At, atBy, Walked, stopsAt, onward, lacksRoom, walk, isPart, stBy, heldOf, recordOf, atOf}
 use Rattle.decoder.specs.Turns.{Fits}
 use Rattle.decoder.specs.Feeding.{OpenAt, Open, Moves}
-use Rattle.decoder.specs.Skims.{Runs, Stands, Alone, Skims}
+use Rattle.decoder.specs.Skims.{Runs, inReference, Closes, Ends, Stands, Alone, Skims}
+use Rattle.decoder.proofs.ClosedReferences.{Passes, walk-closed}
 use Rattle.decoder.proofs.PieceLaws.{character-read}
-use Rattle.decoder.proofs.Quiet.{plain-is, plain-calls}
+use Rattle.decoder.proofs.Looks.{Looks, ascii, wide, looks, passes-ascii, alphanumeric-ascii}
+use Rattle.decoder.proofs.Quiet.{plain-is, plain-calls, calls-none}
+use Rattle.decoder.proofs.Unfolding.{all-append}
 use Rattle.decoder.proofs.Walks.{walk-more, walk-char}
 
 -- Room for a byte.
@@ -160,27 +167,17 @@ module _ {context : Context} {before : ℕ} {s : List ℕ} {from : ℕ} {text er
         (wrote-text errors′ e′ put) (omega (arith, put .next-is, put-length put, long, run .fits)) (g .errors-in)
         (omega (arith, put .next-is, long)) (omega arith))
 
-    -- A character is written.
-    pub skims-alone : {text″ errors″ : List ℕ} {w″ e″ : ℕ} (p : Piece) → 64 ≤ length text′ - w′ → 8 ≤ length errors′ - e′
+    -- A piece is written.
+    pub skims-alone : {text″ errors″ : List ℕ} {w″ e″ : ℕ} (p : Piece) → 64 + p .size ≤ length text′ - w′ → 8 + 2 * p .size ≤ length errors′ - e′
         → Stands context (drop at s) p → Wrote (readingAt (before + at) (pieceOf p)) text′ w′ text″ w″ errors′ e′ errors″ e″ → w″ ≤ w′ + 8
         → e″ ≤ e′ + 4
         → Skims context before s from (at + p .size) text w text″ w″ errors e errors″ e″
-    skims-alone {text″} {errors″} {w″} {e″} p text-room errors-room a wrote text-few errors-few =
-        let some = read-length (drop at s) (a .char) (a .size) (a .read) in
-        let size-is : p .size ≡ a .size = ap (λ (x : Piece). x .size) (a .piece-is) in
-        let own = take (a .size) (drop at s) in
-        let piece-is : pieceOf p ≡ character (readChar (drop at s)) (drop at s) =
-        ap pieceOf (a .piece-is) ∙ character-read (drop at s) (a .read) refl in
-        let wrote-own =
-        subst (λ (q : standard.Piece). Wrote (readingAt (before + at) q) text′ w′ text″ w″ errors′ e′ errors″ e″)
-        (piece-is ∙ ap (λ r. character r (drop at s)) (a .read)) wrote in
-        rw size-is
-        (skims-on (a .size) (reading own (placed (before + at) (listed (characterCode (a .char))))) (omega (arith, some, length-drop at s))
-        (walk-alone context (length text′ - w′) (length errors′ - e′) (before + at) (a .char) (a .size) (drop at s) text-room errors-room (a .read)
-        (a .calls) (a .no-cr) (a .no-ampersand)
-        ∙ ap (λ (n : ℕ). stopsAt done (reading own (placed (before + at) (listed (characterCode (a .char))))) (atBy Data [] n)) (omega arith))
-        wrote-own (omega (arith, put-length (wrote .texts))) (omega (arith, put-length (wrote .numbers-of))) (omega (arith, some))
-        (omega (arith, some)))
+    skims-alone p text-room errors-room a wrote text-few errors-few =
+        let some = a .some in
+        skims-on (p .size) (readingAt (before + at) (pieceOf p)) (omega (arith, a .there, length-drop at s, g .there))
+        (a .walks (length text′ - w′) (length errors′ - e′) (before + at) text-room errors-room
+        ∙ ap (λ (n : ℕ). stopsAt done (readingAt (before + at) (pieceOf p)) (atBy Data [] n)) (omega arith))
+        wrote (omega (arith, put-length (wrote .texts))) (omega (arith, put-length (wrote .numbers-of))) (omega arith) (omega arith)
 
     -- The room that is left.
     pub skims-room : (length text′ ≡ length text) × (length errors′ ≡ length errors)
@@ -286,20 +283,153 @@ run-length {s = s} {at} {free} {end} r =
     let from = r .from in
     omega (arith, r .fits, length-take-le (end - at) (drop at s) (simp length-drop (omega arith)))
 
--- A character that was read and calls for nothing, as a piece.
+-- A character that was read and calls for nothing stands for itself.
 pub stands-alone : {context : Context} {s : List ℕ} {c n error : ℕ} {p : Piece} → readChar s ≡ Char c n → callsFor context c ≡ done
     → c ≢ code "\r" → c ≢ code "&" → error ≡ characterCode c → p ≡ oneOf n c error 0 → Stands context s p
-stands-alone {c = c} {n} read calls no-cr no-ampersand error-is is = record {
-  char = c;
-  size = n;
-  read = read;
-  calls = calls;
-  no-cr = ne-eqb c (code "\r") no-cr;
-  no-ampersand = ne-eqb c (code "&") no-ampersand;
-  piece-is = is ∙ ap (λ (x : ℕ). oneOf n c x 0) error-is;
-}
+stands-alone {context} {s} {c} {n} {error} {p} read calls no-cr no-ampersand error-is is =
+    subst (Stands context s) (sym is) (record {
+      some = some .0;
+      there = some .2;
+      walks = λ text errors q h k. walk-alone context text errors q c n s (omega (arith, h)) (omega (arith, k)) read calls (ne-eqb c
+          (code "\r") no-cr)
+          (ne-eqb c (code "&") no-ampersand)
+          ∙ ap (λ (x : standard.Piece). stopsAt done (readingAt q x) (atBy Data [] (q + n))) (sym piece-is);
+    })
+  where
+    some : (1 ≤ n) × (n ≤ 4) × (n ≤ length s)
+    some = read-length s c n read
 
--- A piece that has bytes is such a character.
+    piece-is : pieceOf (oneOf n c error 0) ≡ standard.piece n (take n s) (listed (characterCode c))
+    piece-is = character-read s read error-is ∙ ap (λ r. character r s) read
+
+-- A byte of a reference is ASCII and calls for nothing.
+reference-passes : (context : Context) (b : ℕ) → inReference b ≡ true → Passes context b
+reference-passes context b e =
+    let h = go (eqb b (code "#")) (alphanumeric b) refl refl e in
+    (h .0, calls-none context b (λ i. no-way (sym e ∙ ap inReference i)) (λ i. no-way (sym e ∙ ap inReference i ∙ end-not context)))
+  where
+    go : (t u : Bool) → eqb b (code "#") ≡ t → alphanumeric b ≡ u → t || u ≡ true → (b < 0x80) × Unit {0}
+    go true u f g h = (omega (arith, eqb-true b (code "#") f), tt)
+    go false true f g h = (passes-ascii alphanumeric alphanumeric-ascii b g, tt)
+    go false false f g h = no-way (sym h)
+
+    end-not : (context : Context) → inReference (endOf context) ≡ false
+    end-not Text = refl
+    end-not Attribute = refl
+
+-- The `;` that ends a reference does so too, and its `&`.
+semicolon-passes : (context : Context) → Passes context (code ";")
+semicolon-passes Text = (omega arith, refl)
+semicolon-passes Attribute = (omega arith, refl)
+
+ampersand-passes : (context : Context) → Passes context (code "&")
+ampersand-passes Text = (omega arith, refl)
+ampersand-passes Attribute = (omega arith, refl)
+
+-- What every element passes holds of all of them.
+all-pass : (context : Context) (l : List ℕ) → every inReference l ≡ true → All (Passes context) l
+all-pass context [] e = tt
+all-pass context (b ∷ l) e =
+    let w = and-true (inReference b) (every inReference l) e in (reference-passes context b (w .0), all-pass context l (w .1))
+
+-- The first n bytes of which the first and the last are known.
+first-last : (s : List ℕ) (n a b : ℕ) → 2 ≤ n → n ≤ length s → getD s 0 0 ≡ a → getD s (n - 1) 0 ≡ b
+    → take n s ≡ a ∷ take (n - 2) (drop 1 s) ++ b ∷ []
+first-last [] n a b some there e f = absurd (omega arith)
+first-last (x ∷ s) zero a b some there e f = absurd (omega arith)
+first-last (x ∷ s) (suc zero) a b some there e f = absurd (omega arith)
+first-last (x ∷ s) (suc (suc k)) a b some there e f =
+    let last : getD s k 0 ≡ b = ap (λ (m : ℕ). getD (x ∷ s) m 0) (let i : suc k ≡ suc (suc k) - 1 = omega arith in i) ∙ f in
+    ap₂ (λ (y : ℕ) (l : List ℕ). y ∷ l) e (take-suc s k 0 (omega arith) ∙ ap (λ (y : ℕ). take k s ++ y ∷ []) last)
+    ∙ ap (λ (m : ℕ). a ∷ take m s ++ b ∷ []) (let i : k ≡ suc (suc k) - 2 = omega arith in i)
+
+-- The piece of some bytes that begin with `&` is by what follows it.
+front-reference : (context : Context) (s : List ℕ) (n : ℕ) → 1 ≤ n → n ≤ length s → getD s 0 0 ≡ code "&"
+    → pieceAt builtin context (take n s) ≡ standard.reference builtin context (take (n - 1) (drop 1 s))
+unfolding pieceAt
+front-reference context [] n some there e = absurd (omega arith)
+front-reference context (x ∷ s) zero some there e = absurd (omega arith)
+front-reference context (x ∷ s) (suc m) some there e =
+    rw e (ap (λ (k : ℕ). standard.reference builtin context (take k s)) (let i : m ≡ suc m - 1 = omega arith in i))
+
+-- A reference that ends in its own `;` stands for itself.
+pub stands-closed : {context : Context} {s table : List ℕ} {n : ℕ} {p : Piece} → Closes s n → getD s 0 0 ≡ code "&" → table ≡ tableOf builtin
+    → pieceOf p ≡ standard.reference (records table) context (take (n - 1) (drop 1 s)) → p .size ≡ n → Stands context s p
+stands-closed {context} {s} {table} {n} {p} c first t is size = record {
+  some = omega (arith, c .some);
+  there = omega (arith, c .there);
+  walks = λ text errors q h k.
+      ap (λ (m : ℕ). walk builtin context text errors (atBy Data [] q) (take m s)) size
+      ∙ walk-closed context text errors q (take n s) (pieceOf p) all (omega (arith, long, c .some)) last front
+      (size ∙ sym long) (omega (arith, long)) (omega (arith, long))
+      ∙ ap (λ (m : ℕ). stopsAt done (readingAt q (pieceOf p)) (atBy Data [] (q + m))) (long ∙ sym size);
+}
+  where
+    long : length (take n s) ≡ n
+    long = length-take-le n s (c .there)
+
+    between : List ℕ
+    between = take (n - 2) (drop 1 s)
+
+    -- The bytes are `&`, those between, and `;`.
+    parts : take n s ≡ code "&" ∷ between ++ code ";" ∷ []
+    parts = first-last s n (code "&") (code ";") (c .some) (c .there) first (c .last)
+
+    all : All (Passes context) (take n s)
+    all = subst (All (Passes context)) (sym parts) (
+      ampersand-passes context,
+      all-append (Passes context) between (code ";" ∷ []) (all-pass context between (c .between)) (semicolon-passes context, tt),
+    )
+
+    last : getD (take n s) (length (take n s) - 1) 0 ≡ code ";"
+    last = ap (λ (m : ℕ). getD (take n s) (m - 1) 0) long ∙ getD-take n s (n - 1) 0 (omega (arith, c .some)) ∙ c .last
+
+    front : pieceAt builtin context (take n s) ≡ pieceOf p
+    front =
+        front-reference context s n (omega (arith, c .some)) (c .there) first
+        ∙ ap (λ (names : List Name). standard.reference names context (take (n - 1) (drop 1 s))) (sym (ap records t ∙ table-read)) ∙ sym is
+
+-- A piece that has bytes stands so.
 pub alone-stands : {context : Context} {s : List ℕ} (p : Piece) → Alone context s p → p .size ≢ 0 → Stands context s p
 alone-stands p (inl none) some = absurd (some (ap (λ (x : Piece). x .size) none))
 alone-stands p (inr a) some = a
+
+-- Bytes of a reference so far, and one more.
+pub between-more : (s : List ℕ) (at : ℕ) → 1 ≤ at → at < length s → every inReference (take (at - 1) (drop 1 s)) ≡ true → inReference (getD s at 0)
+    ≡ true
+    → every inReference (take (at + 1 - 1) (drop 1 s)) ≡ true
+between-more s at some there so-far more =
+    let k = at - 1 in
+    let l = drop 1 s in
+    ap (λ (m : ℕ). every inReference (take m l)) (let i : at + 1 - 1 ≡ suc k = omega arith in i)
+    ∙ ap (every inReference) (take-suc l k 0 (simp length-drop (omega arith)))
+    ∙ every-both (take k l) (getD l k 0) so-far
+    (ap inReference (getD-drop 1 s k 0 ∙ ap (λ (m : ℕ). getD s m 0) (let i : 1 + k ≡ at = omega arith in i)) ∙ more)
+  where
+    every-both : (l : List ℕ) (b : ℕ) → every inReference l ≡ true → inReference b ≡ true → every inReference (l ++ b ∷ []) ≡ true
+    every-both [] b e f = rw f
+    every-both (x ∷ l) b e f =
+        let w = and-true (inReference x) (every inReference l) e in rw (w .0) (every-both l b (w .1) f)
+
+-- Where the next byte is `;` they are closed.
+pub closes-at : (s : List ℕ) (at : ℕ) → 1 ≤ at → at < length s → every inReference (take (at - 1) (drop 1 s)) ≡ true → getD s at 0 ≡ code ";"
+    → Closes s (at + 1)
+closes-at s at some there so-far e = record {
+  some = omega arith;
+  there = omega arith;
+  last = ap (λ (m : ℕ). getD s m 0) (let i : at + 1 - 1 ≡ at = omega arith in i) ∙ e;
+  between = ap (λ (m : ℕ). every inReference (take m (drop 1 s))) (let i : at + 1 - 2 ≡ at - 1 = omega arith in i) ∙ so-far;
+}
+
+-- A character that is read as `&` is that byte.
+pub ampersand-first : (s : List ℕ) (c n : ℕ) → readChar s ≡ Char c n → c ≡ code "&" → (0 < length s) × (getD s 0 0 ≡ code "&")
+ampersand-first s c n read e = by (looks s c n read) e
+  where
+    by : {s : List ℕ} {c n : ℕ} → Looks s c n → c ≡ code "&" → (0 < length s) × (getD s 0 0 ≡ code "&")
+    by (ascii h) e = (omega arith, e)
+    by (wide h k f) e = absurd (omega arith)
+
+-- An end that is there closes some bytes.
+pub ends-closes : {s : List ℕ} {n : ℕ} → Ends s n → n ≢ 0 → Closes s n
+ends-closes (inl none) some = absurd (some none)
+ends-closes (inr c) some = c

@@ -3,22 +3,20 @@ use Prim.Native.Nat.{ℕ, _+_, _-_, _*_, _≤_}
 use Prim.Native.Char.{code}
 use mathlib.Core.Path.{_≡_}
 use mathlib.Core.List.{List, []}
-use mathlib.Core.Bool.{true, false}
+use mathlib.Core.Bool.{Bool, true, _||_}
 use mathlib.Core.Logic.{_⊎_}
 use lib.Dec.{eqb}
-use lib.ListN.{length, take, drop}
+use lib.ListN.{length, getD, take, drop}
 use Rattle.standard.specs.declared.Context.{Context}
-use Rattle.standard.specs.declared.characters.CharRead.the-variants.{Char}
 use Rattle.standard.specs.Notation.{every}
-use Rattle.standard.specs.Utf8.{readChar}
 use Rattle.standard.specs.Answers.{done}
-use Rattle.standard.specs.Classes.{characterCode}
+use Rattle.standard.specs.Classes.{alphanumeric}
 use Rattle.standard.specs.NameList.{builtin}
-use Rattle.standard.specs.Reading.{callsFor, Reading}
+use Rattle.standard.specs.Reading.{Reading, readingAt}
 use Rattle.standard.specs.Rooms.{Wrote}
 use Rattle.decoder.specs.declared.pieces.Piece.{Piece}
 use Rattle.decoder.specs.Machine.{Data}
-use Rattle.decoder.specs.Pieces.{oneOf, noneOf}
+use Rattle.decoder.specs.Pieces.{pieceOf, noneOf}
 use Rattle.decoder.specs.Runs.{plain, endOf}
 use Rattle.decoder.specs.Stream.{atBy, stopsAt, walk}
 
@@ -29,17 +27,29 @@ pub record Runs (context : Context) (s : List ℕ) (at free end : ℕ) : Type 0 
   pub fits : end + 63 ≤ at + free
   pub plains : every (plain (endOf context)) (take (end - at) (drop at s)) ≡ true
 
--- A character that stands for itself and calls for nothing, as a piece.
-pub record Stands (context : Context) (s : List ℕ) (p : Piece) : Type 0 where
-  pub char : ℕ
-  pub size : ℕ
-  pub read : readChar s ≡ Char char size
-  pub calls : callsFor context char ≡ done
-  pub no-cr : eqb char (code "\r") ≡ false
-  pub no-ampersand : eqb char (code "&") ≡ false
-  pub piece-is : p ≡ oneOf size char (characterCode char) 0
+-- A byte that may stand between the `&` and the `;` of a reference.
+abbrev pub inReference : ℕ → Bool
+inReference b = eqb b (code "#") || alphanumeric b
 
--- Such a character, or a piece of no bytes.
+-- The first n bytes are one of any kind, bytes that may stand in a reference, and `;`.
+pub record Closes (s : List ℕ) (n : ℕ) : Type 0 where
+  pub some : 2 ≤ n
+  pub there : n ≤ length s
+  pub last : getD s (n - 1) 0 ≡ code ";"
+  pub between : every inReference (take (n - 2) (drop 1 s)) ≡ true
+
+-- Such bytes, or none.
+abbrev pub Ends : List ℕ → ℕ → Type 0
+Ends s n = (n ≡ 0) ⊎ Closes s n
+
+-- A piece at the front of s that a walk with nothing held reads as such, with nothing held after it, where its room is there.
+pub record Stands (context : Context) (s : List ℕ) (p : Piece) : Type 0 where
+  pub some : 1 ≤ p .size
+  pub there : p .size ≤ length s
+  pub walks : (text errors q : ℕ) → 64 + p .size ≤ text → 8 + 2 * p .size ≤ errors
+      → walk builtin context text errors (atBy Data [] q) (take (p .size) s) ≡ stopsAt done (readingAt q (pieceOf p)) (atBy Data [] (q + p .size))
+
+-- Such a piece, or one of no bytes.
 abbrev pub Alone : Context → List ℕ → Piece → Type 0
 Alone context s p = (p ≡ noneOf 0) ⊎ Stands context s p
 

@@ -263,6 +263,7 @@ struct Ahead {
 
 // Where nothing is held, the chunk from `at` on as far as it can be skimmed.
 fn skim_on(
+    table: &[u8],
     record: Stream,
     chunk: &[u8],
     at: usize,
@@ -271,8 +272,8 @@ fn skim_on(
     errors: &mut [u32],
     e: usize,
 ) -> Ahead
-    requires { ⌜ Open «record» × (at ≤ «record» .taken) × («record» .taken + length (now chunk) ≤ 16777216 + at) × (at ≤ length (now chunk))
-        × (w ≤ length (now text)) × (e ≤ length (now errors)) ⌝ }
+    requires { ⌜ (now table ≡ tableOf builtin) × Open «record» × (at ≤ «record» .taken) × («record» .taken + length (now chunk) ≤ 16777216 + at)
+        × (at ≤ length (now chunk)) × (w ≤ length (now text)) × (e ≤ length (now errors)) ⌝ }
     ensures { λ r. ⌜ Moves «record» (now (chunk .entry)) at (now (text .entry)) w (now (errors .entry)) e
         (r .«record») (r .at) (now (text .exit)) (r .text) (now (errors .exit)) (r .errors) ⌝ }
 {
@@ -296,7 +297,7 @@ fn skim_on(
         };
     }
     let before = record.taken - at as u32;
-    let skimmed = skim(context, before, chunk, at, text, w, errors, e);
+    let skimmed = skim(table, context, before, chunk, at, text, w, errors, e);
     let end = skimmed.at;
     Ahead {
         record: Stream {
@@ -331,7 +332,7 @@ pub(crate) fn walk(
     let mut w: usize = 0;
     let mut e: usize = 0;
     while at < chunk.len() {
-        let ahead = skim_on(record, chunk, at, text, w, errors, e);
+        let ahead = skim_on(table, record, chunk, at, text, w, errors, e);
         let there = ahead.record;
         record = there;
         at = ahead.at;

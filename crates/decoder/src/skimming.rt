@@ -1,12 +1,17 @@
-// A chunk where nothing is held: runs are copied and other characters that stand for themselves are written, without a look at the record.
+// A chunk where nothing is held: runs are copied, and other characters that stand for themselves and references that end in their own `;` are
+// written, without a look at the record.
 ghost use mathlib.Core.Path.{_≡_};
 ghost use mathlib.Core.List.{[]};
 ghost use Prim.Native.Nat.{_≤_, _<_, _+_, _-_, min};
-ghost use lib.ListN.{length, take, drop};
+ghost use lib.ListN.{length, getD, take, drop};
+ghost use Rattle.standard.specs.Names.{tableOf};
+ghost use Rattle.standard.specs.NameList.{builtin};
 ghost use Rattle.standard.specs.Rooms.{Put};
-ghost use Rattle.decoder.specs.Skims.{Runs, Alone, Skims};
+ghost use Rattle.decoder.specs.Skims.{Runs, inReference, Ends, Alone, Skims};
+use crate::classes::alphanumeric;
 use crate::classes::character_code;
 use crate::pieces::Piece;
+use crate::pieces::reference;
 use crate::runs::plain_run;
 use crate::stops::calls_for;
 use crate::writers::put_piece;
@@ -44,17 +49,63 @@ fn copy_run(context: Context, chunk: &[u8], at: usize, text: &mut [u8], w: usize
     }
 }
 
-// The character at the front of rest as a piece, where it stands for itself and stops nothing; else a piece of no bytes.
-fn alone(context: Context, rest: &[u8]) -> Piece
+// A byte that may stand between the `&` and the `;` of a reference.
+fn in_reference(b: u8) -> bool
+    ensures { λ r. ⌜ r ≡ inReference b ⌝ }
+{
+    if b == b'#' {
+        return true;
+    }
+    alphanumeric(b)
+}
+
+// The place after the `;` of an `&` that such bytes follow; 0 where there is none.
+fn reference_end(rest: &[u8]) -> usize
+    ensures { λ r. ⌜ Ends (now (rest .entry)) r ⌝ }
+{
+    let mut at: usize = 1;
+    while at < rest.len() {
+        let b = rest[at];
+        if b == b';' {
+            return at + 1;
+        }
+        if !in_reference(b) {
+            return 0;
+        }
+        at += 1;
+    }
+    0
+}
+
+// The reference at the front of rest as a piece, where it ends in its own `;`; else a piece of no bytes.
+fn closed(table: &[u8], context: Context, rest: &[u8]) -> Piece
+    requires { ⌜ (now table ≡ tableOf builtin) × (0 < length (now rest)) × (getD (now rest) 0 0 ≡ 0x26) ⌝ }
+    ensures { λ r. ⌜ Alone context (now (rest .entry)) r ⌝ }
+{
+    let end = reference_end(rest);
+    if end == 0 {
+        return Piece::none(0);
+    }
+    let piece = reference(table, context, &rest[1..end]);
+    if piece.size != end {
+        return Piece::none(0);
+    }
+    piece
+}
+
+// What stands at the front of rest as a piece, where it is a character that stands for itself and stops nothing, or a reference that ends in its own
+// `;`; else a piece of no bytes.
+fn alone(table: &[u8], context: Context, rest: &[u8]) -> Piece
+    requires { ⌜ now table ≡ tableOf builtin ⌝ }
     ensures { λ r. ⌜ Alone context (now (rest .entry)) r ⌝ }
 {
     let CharRead::Char { value, len } = read_char(rest) else {
         return Piece::none(0);
     };
-    if value == 0xD {
-        return Piece::none(0);
-    }
     if value == 0x26 {
+        return closed(table, context, rest);
+    }
+    if value == 0xD {
         return Piece::none(0);
     }
     if calls_for(context, value) != 0 {
@@ -72,6 +123,7 @@ pub(crate) struct Skimmed {
 
 // The chunk from `from` on, where before bytes were taken before it and nothing is held: as far as it stands for itself and has room.
 pub(crate) fn skim(
+    table: &[u8],
     context: Context,
     before: u32,
     chunk: &[u8],
@@ -81,7 +133,8 @@ pub(crate) fn skim(
     errors: &mut [u32],
     e0: usize,
 ) -> Skimmed
-    requires { ⌜ (before + length (now chunk) ≤ 16777216) × (from ≤ length (now chunk)) × (w0 ≤ length (now text)) × (e0 ≤ length (now errors)) ⌝ }
+    requires { ⌜ (now table ≡ tableOf builtin) × (before + length (now chunk) ≤ 16777216) × (from ≤ length (now chunk))
+        × (w0 ≤ length (now text)) × (e0 ≤ length (now errors)) ⌝ }
     ensures { λ r. ⌜ Skims context before (now (chunk .entry)) from (r .at) (now (text .entry)) w0 (now (text .exit)) (r .text)
         (now (errors .entry)) e0 (now (errors .exit)) (r .errors) ⌝ }
 {
@@ -106,15 +159,23 @@ pub(crate) fn skim(
         let run = copy_run(context, chunk, at, text, w);
         at = run.at;
         w = run.text;
-        if text.len() - w < 64 {
+        let piece = alone(table, context, &chunk[at..]);
+        let size = piece.size;
+        if size == 0 {
             return Skimmed {
                 at,
                 text: w,
                 errors: e,
             };
         }
-        let piece = alone(context, &chunk[at..]);
-        if piece.size == 0 {
+        if text.len() - w < 64 + size {
+            return Skimmed {
+                at,
+                text: w,
+                errors: e,
+            };
+        }
+        if errors.len() - e < 8 + 2 * size {
             return Skimmed {
                 at,
                 text: w,
@@ -124,7 +185,7 @@ pub(crate) fn skim(
         let next = put_piece(text, w, errors, e, piece, before + at as u32);
         w = next.text;
         e = next.errors;
-        at += piece.size;
+        at += size;
     }
     Skimmed {
         at,

@@ -33,8 +33,16 @@ skim-on-requires : tie.Need-skim-on-requires Inv-loop μ-loop
 skim-on-requires c κs =
     let l = c .before .before .before .loop in
     let count = taken-count (l .inv) in
-    let short = c .before .before .before .before .before .before .before .before .pre .2 in
-    (taken-open (l .inv), omega (arith, count), omega (arith, count, short), l .inv .there, l .inv .text-in, l .inv .errors-in)
+    let short = c .before .before .before .before .before .before .before .before .pre .2 in (
+      c .before .before .before .before .before .before .before .before .pre .0,
+      taken-open (l .inv),
+      omega (arith, count),
+      omega
+          (arith, count, short),
+      l .inv .there,
+      l .inv .text-in,
+      l .inv .errors-in,
+    )
 
 same-length : tie.Need-same-length Inv-loop μ-loop
 same-length c =
