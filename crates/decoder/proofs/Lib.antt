@@ -15,6 +15,7 @@ pub mod Simulates
 pub mod MachineReads
 pub mod Bytes
 pub mod Walks
+pub mod Room
 pub mod Padded
 pub mod Taking
 pub mod Releasing
@@ -26,6 +27,7 @@ pub mod Keeps
 pub mod Returns
 pub mod Cuts
 pub mod Standing
+pub mod Fitting
 pub mod TurnLaws
 pub mod Turning
 pub mod NameTurns

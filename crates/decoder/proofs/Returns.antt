@@ -3,9 +3,9 @@ use Prim.Native.Nat.{ℕ, _+_, _-_, _/_, _≤_, _<_}
 use mathlib.Core.Path.{_≡_, refl, sym, _∙_, ap, subst}
 use mathlib.Core.List.{List}
 use mathlib.Core.Bool.{Bool, true, false}
-use mathlib.Core.Logic.{_⊎_, inl, inr, ⊎-elim}
+use mathlib.Core.Logic.{_⊎_}
 use native.Mathlib.Omega.{arith}
-use lib.Dec.{ltb, leb}
+use lib.Dec.{leb}
 use lib.ListN.{length, take, length-take}
 use borrow.Author.Tests.{leb-true, lt-ltb, le-ltb}
 use Rattle.standard.specs.declared.Context.{Context}
@@ -16,7 +16,7 @@ use Rattle.standard.specs.NameList.{builtin}
 use Rattle.standard.specs.Reading.{Reading}
 use Rattle.standard.specs.Rooms.{Wrote}
 use Rattle.standard.specs.Utf8.{readChar}
-use Rattle.standard.proofs.Choice.{and-true, test?}
+use Rattle.standard.proofs.Choice.{and-true}
 use Rattle.standard.proofs.Puts.{numbers-length}
 use Rattle.decoder.specs.declared.feeding.Walked as code
 use Rattle.decoder.specs.declared.stream.Held.{Held}
@@ -28,7 +28,6 @@ use Rattle.decoder.specs.Stream.{
   placeOf,
   Walked,
   walk,
-  lacksRoom,
   heldOf,
   recordOf,
   closedBy,
@@ -50,6 +49,7 @@ use Rattle.decoder.specs.Stream.{
 use Rattle.decoder.specs.Turns.{Fit}
 use Rattle.decoder.specs.Feeding.{OpenAt, Open, Walks}
 use Rattle.decoder.proofs.Open.{open-fits, held-back, fit-of, at-back}
+use Rattle.decoder.proofs.Room.{lacks-so, room-so}
 use Rattle.decoder.proofs.Taking.{open-record}
 
 -- What a record says that is open.
@@ -91,15 +91,6 @@ module _ (h : Held) {x : Held} (stored : holds builtin (h .state) (take (h .coun
   pub is-fit : Fit x
   is-fit = subst Fit (sym is) (fit-of (stOf h) (open-fits h stored))
 
--- Too little room.
-lacks : (t e : ℕ) → (t < 64) ⊎ (e < 8) → lacksRoom t e ≡ true
-lacks t e (inl h) = rw (lt-ltb t 64 h)
-lacks t e (inr h) = rw (lt-ltb e 8 h) (⊎-elim (λ f. rw f) (λ f. rw f) (test? (ltb t 64)))
-
--- Enough room.
-has-room : (t e : ℕ) → 64 ≤ t → 8 ≤ e → lacksRoom t e ≡ false
-has-room t e h i = rw (le-ltb t 64 h, le-ltb e 8 i)
-
 module _ (r : Stream) (t e : ℕ) where
   -- The end: 8.
   pub end-closed : isOpen builtin r ≡ false → endOf builtin r t e ≡ refuses closed r
@@ -115,19 +106,19 @@ module _ (r : Stream) (t e : ℕ) where
     -- The end: 5.
     pub end-room : (t < 64) ⊎ (e < 8) → endOf builtin r t e ≡ refuses no-room r
     unfolding endOf
-    end-room h = rw (o, lacks t e h)
+    end-room h = rw (o, lacks-so t e h)
 
     -- 1.
     pub end-inside : 64 ≤ t → 8 ≤ e → 0 < r .«part_count»
         → endOf builtin r t e ≡ outcome ill-formed 0 (placeOf (atOf r)) nothing (closedBy (r .context) (r .taken))
     unfolding endOf
-    end-inside h i k = rw (o, has-room t e h i, lt-ltb 0 (r .«part_count») k)
+    end-inside h i k = rw (o, room-so t e (h, i), lt-ltb 0 (r .«part_count») k)
 
     -- 0.
     pub end-done : 64 ≤ t → 8 ≤ e → r .«part_count» ≤ 0
         → endOf builtin r t e ≡ outcome done 0 0 (finish builtin (r .context) (stOf (r .held))) (closedBy (r .context) (r .taken))
     unfolding endOf
-    end-done h i k = rw (o, has-room t e h i, le-ltb 0 (r .«part_count») k)
+    end-done h i k = rw (o, room-so t e (h, i), le-ltb 0 (r .«part_count») k)
 
     module _ (chunk : List ℕ) where
       -- A chunk: 3.
@@ -145,14 +136,14 @@ module _ (r : Stream) (t e : ℕ) where
           -- 5.
           pub feed-room : (t < 64) ⊎ (e < 8) → feedOf builtin r chunk t e ≡ refuses no-room r
           unfolding feedOf
-          feed-room h = rw (o, le-ltb 65536 (length chunk) short, le-ltb 16777216 (r .taken + length chunk) fits, lacks t e h)
+          feed-room h = rw (o, le-ltb 65536 (length chunk) short, le-ltb 16777216 (r .taken + length chunk) fits, lacks-so t e h)
 
           -- What its bytes come to.
           pub feed-walks : 64 ≤ t → 8 ≤ e
               → feedOf builtin r chunk t e ≡ walkedTo (r .context) (r .taken) (walk builtin (r .context) t e (atOf r) chunk)
           unfolding feedOf
           feed-walks h i =
-              rw (o, le-ltb 65536 (length chunk) short, le-ltb 16777216 (r .taken + length chunk) fits, has-room t e h i)
+              rw (o, le-ltb 65536 (length chunk) short, le-ltb 16777216 (r .taken + length chunk) fits, room-so t e (h, i))
 
 -- A call that comes to nothing writes nothing.
 pub feeds-nothing : {o : Outcome} {answer taken place : ℕ} {r : Stream} {text errors : List ℕ} {fed : Fed} → o ≡ outcome answer taken place nothing r

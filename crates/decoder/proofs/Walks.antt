@@ -54,6 +54,11 @@ own-take part b n s e =
 onward-twice : (a b : Reading) (w : Walked) → onward a (onward b w) ≡ onward (a ⊕ b) w
 onward-twice a b w = ap (λ (g : Reading). stopsAt (w .answer) g (w .stop)) (sym (⊕-assoc a b (w .gives)))
 
+-- A walk that goes on with one after a byte.
+abbrev pub after-byte : (full taken : Bool) → At → Walked → Walked → Walked
+after-byte full taken at w rest =
+    if full then stopsAt room-used-up nothing at else if taken then onward (w .gives) rest else w
+
 -- Two walks one after the other.
 module _ (names : List Name) (context : Context) where
   -- A walk with the room that is left after a reading.
@@ -160,6 +165,32 @@ module _ (names : List Name) (context : Context) where
           else stopsAt done (m .gives) (m .to))
       go false = refl
       go true = ap (λ (g : Reading). stopsAt done g (m .to)) (⊕-none (m .gives))
+
+  -- A walk begins with its first byte.
+  pub walk-byte : (text errors : ℕ) (at : At) (b : ℕ) (s : List ℕ) → let w = byteWalk names context at b in
+      walk names context text errors at (b ∷ s)
+      ≡ after-byte (lacksRoom text errors) (eqb (w .answer) done) at w (walkAfter (w .gives) text errors (w .stop) s)
+  unfolding walk byteWalk
+  walk-byte text errors at b s = by (lacksRoom text errors) (eqb (calledFor context (readChar own)) done) refl
+    where
+      own : List ℕ
+      own = at .part ++ b ∷ []
+
+      m : Move
+      m = moveBy names context at (readChar own) own
+
+      answer : ℕ
+      answer = calledFor context (readChar own)
+
+      by : (full taken : Bool) → eqb (calledFor context (readChar own)) done ≡ taken
+          → let w = (if not taken then stopsAt answer (lastOf names context answer (at .st)) at else stopsAt done (m .gives) (m .to)) in
+          (if full then stopsAt room-used-up nothing at
+          else if not taken then stopsAt answer (lastOf names context answer (at .st)) at
+          else onward (m .gives) (walkAfter (m .gives) text errors (m .to) s))
+          ≡ after-byte full (eqb (w .answer) done) at w (walkAfter (w .gives) text errors (w .stop) s)
+      by true taken f = refl
+      by false false f = rw f
+      by false true f = refl
 
 module _ (names : List Name) (context : Context) (text errors : ℕ) where
   -- Where a byte lacks its room.

@@ -7,6 +7,7 @@ pub mod WholeAnswers
 pub mod EscapeAnswers
 pub mod EscapeEdges
 pub mod Unique
+pub mod Fits
 pub mod Held
 pub mod Cutting
 pub mod WalkStops

@@ -58,6 +58,7 @@ use Rattle.decoder.specs.Stream.{
 }
 use Rattle.decoder.proofs.Answering.{OneOf}
 use Rattle.decoder.proofs.Returns.{feed-closed, feed-long, feed-stream-long, feed-room, end-closed, end-room, end-inside, end-done}
+use Rattle.decoder.proofs.Room.{lacks-so, room-so, room?, lacks-only, room-only}
 use Rattle.demands.proofs.Lines.{Line, LineOf}
 use Rattle.demands.proofs.Held.{By, Calls, left, closed-closed}
 use Rattle.demands.proofs.WalkStops.{
@@ -69,11 +70,6 @@ use Rattle.demands.proofs.WalkStops.{
   walk-lacks,
   walk-meets,
   walk-cases,
-  lacks-so,
-  room-so,
-  room?,
-  lacks-only,
-  room-only,
   counted,
   feed-begun,
   feed-open,

@@ -4,11 +4,11 @@ use Prim.Native.Char.{code}
 use mathlib.Core.Path.{_≡_, refl, sym, _∙_, ap, ap₂, subst}
 use mathlib.Core.List.{List, [], _∷_, _++_}
 use mathlib.Core.Bool.{Bool, true, false, not}
-use mathlib.Core.Logic.{_≢_, _↔_, _⊎_, inl, inr, ⊎-elim}
+use mathlib.Core.Logic.{_≢_, _↔_, _⊎_, inl, inr}
 use native.Mathlib.Omega.{arith}
-use lib.Dec.{ltb, eqb}
+use lib.Dec.{eqb}
 use lib.ListN.{length, getD, take, length-append, length-take}
-use borrow.Author.Tests.{eqb-true, eqb-false, ne-eqb, lt-ltb, le-ltb}
+use borrow.Author.Tests.{eqb-true, eqb-false, ne-eqb, lt-ltb}
 use Rattle.standard.specs.declared.Context.{Context}
 use Rattle.standard.specs.declared.Context.the-variants.{Text, Attribute}
 use Rattle.standard.specs.declared.characters.CharRead.{CharRead}
@@ -19,7 +19,7 @@ use Rattle.standard.specs.Answers.{done, ill-formed, nul, room-used-up, context
 use Rattle.standard.specs.NameList.{builtin}
 use Rattle.standard.specs.Reading.{callsFor, Reading, _⊕_}
 use Rattle.standard.specs.Contexts.{refused, ends}
-use Rattle.standard.proofs.Choice.{if-both, no-way, test?, below?}
+use Rattle.standard.proofs.Choice.{if-both}
 use Rattle.standard.proofs.Puts.{⊕-none}
 use Rattle.standard.proofs.Ascii.{read-ascii}
 use Rattle.standard.proofs.RoundTrip.{encode-short}
@@ -60,7 +60,7 @@ use Rattle.decoder.proofs.Keeps.{step-keeps}
 use Rattle.decoder.proofs.Open.{store-back, open-again}
 use Rattle.decoder.proofs.Returns.{opened, opened-at, feed-walks}
 use Rattle.decoder.proofs.Taking.{own-encoded, open-byte}
-use Rattle.decoder.proofs.Walks.{walkAfter, walk-on, walk-full}
+use Rattle.decoder.proofs.Walks.{walkAfter, walk-on, walk-full, after-byte, walk-byte}
 
 -- The answers that the bytes of a character call for.
 pub called-one : (context : Context) (r : CharRead) → OneOf (calledFor context r)
@@ -246,37 +246,6 @@ module _ (context : Context) where
   abbrev pub lacksAfter : (text errors : ℕ) → Reading → Bool
   lacksAfter text errors g = lacksRoom (text - length (g .text)) (errors - 2 * length (g .errors))
 
-  -- A walk that goes on with one after a byte.
-  abbrev after-byte : (full taken : Bool) → At → Walked → Walked → Walked
-  after-byte full taken at w rest =
-      if full then stopsAt room-used-up nothing at else if taken then onward (w .gives) rest else w
-
-  -- A walk begins with its first byte.
-  walk-byte : (text errors : ℕ) (at : At) (b : ℕ) (s : List ℕ) → let w = byteWalk builtin context at b in
-      walk builtin context text errors at (b ∷ s)
-      ≡ after-byte (lacksRoom text errors) (eqb (w .answer) done) at w (walkAfter builtin context (w .gives) text errors (w .stop) s)
-  unfolding walk byteWalk
-  walk-byte text errors at b s = by (lacksRoom text errors) (eqb (calledFor context (readChar own)) done) refl
-    where
-      own : List ℕ
-      own = at .part ++ b ∷ []
-
-      m : Move
-      m = moveBy builtin context at (readChar own) own
-
-      answer : ℕ
-      answer = calledFor context (readChar own)
-
-      by : (full taken : Bool) → eqb (calledFor context (readChar own)) done ≡ taken
-          → let w = (if not taken then stopsAt answer (lastOf builtin context answer (at .st)) at else stopsAt done (m .gives) (m .to)) in
-          (if full then stopsAt room-used-up nothing at
-          else if not taken then stopsAt answer (lastOf builtin context answer (at .st)) at
-          else onward (m .gives) (walkAfter builtin context (m .gives) text errors (m .to) s))
-          ≡ after-byte full (eqb (w .answer) done) at w (walkAfter builtin context (w .gives) text errors (w .stop) s)
-      by true taken f = refl
-      by false false f = rw f
-      by false true f = refl
-
   -- Bytes that are all taken leave the stream open, and are counted.
   pub takes-within : (text errors : ℕ) (at : At) (s : List ℕ) {g : Reading} {here : At} → Within at → Takes text errors at s g here
       → Within here × (here .taken ≡ at .taken + length s)
@@ -285,7 +254,7 @@ module _ (context : Context) where
       let is : at ≡ here = ap (λ (w : Walked). w .stop) e in
       (subst Within is o, ap (λ (x : At). x .taken) (sym is) ∙ omega arith)
   takes-within text errors at (b ∷ s) {g} {here} o e =
-      by (lacksRoom text errors) (eqb (w .answer) done) refl (sym (walk-byte text errors at b s) ∙ e)
+      by (lacksRoom text errors) (eqb (w .answer) done) refl (sym (walk-byte builtin context text errors at b s) ∙ e)
       (λ k g f. takes-within (text - length (w .gives .text)) (errors - 2 * length (w .gives .errors)) (w .stop) s k f)
     where
       w : Walked
@@ -379,26 +348,6 @@ module _ (context : Context) where
           (λ before c after g here split took stays.
           stops (b ∷ before) c after (m .gives ⊕ g) here (ap (λ (l : List ℕ). b ∷ l) split) (rw (room, f) (ap (onward (m .gives)) took))
           (subst (λ (t : Bool). (t ≡ true) ⊎ ((t ≡ false) × (calls here c ≢ done))) (lacks-twice text errors (m .gives) g) stays))
-
--- Too little room, by its test.
-pub lacks-so : (t e : ℕ) → (t < 64) ⊎ (e < 8) → lacksRoom t e ≡ true
-lacks-so t e (inl h) = rw (lt-ltb t 64 h)
-lacks-so t e (inr h) = rw (lt-ltb e 8 h) (⊎-elim (λ f. rw f) (λ f. rw f) (test? (ltb t 64)))
-
--- Enough room.
-pub room-so : (t e : ℕ) → (64 ≤ t) × (8 ≤ e) → lacksRoom t e ≡ false
-room-so t e h = rw (le-ltb t 64 (h .0), le-ltb e 8 (h .1))
-
--- There is too little room, or enough.
-pub room? : (t e : ℕ) → ((t < 64) ⊎ (e < 8)) ⊎ ((64 ≤ t) × (8 ≤ e))
-room? t e = ⊎-elim (λ h. inl (inl h)) (λ h. ⊎-elim (λ k. inl (inr k)) (λ k. inr (h, k)) (below? e 8)) (below? t 64)
-
--- The test holds for too little room alone, and fails for enough.
-pub lacks-only : (t e : ℕ) → lacksRoom t e ≡ true → (t < 64) ⊎ (e < 8)
-lacks-only t e h = ⊎-elim (λ k. k) (λ k. no-way (sym h ∙ room-so t e k)) (room? t e)
-
-pub room-only : (t e : ℕ) → lacksRoom t e ≡ false → (64 ≤ t) × (8 ≤ e)
-room-only t e h = ⊎-elim (λ k. no-way (sym (lacks-so t e k) ∙ h)) (λ k. k) (room? t e)
 
 -- A call that is not refused.
 module _ (r : Stream) (chunk : List ℕ) (t e : ℕ)

@@ -54,7 +54,7 @@ sizes-sum names context =
     (λ s ps h e. omega (arith, piece-size names context s h, length-drop (pieceAt names context s .size) s))
 
 -- As many errors are placed as there are codes.
-length-placed : (offset : ℕ) (codes : List ℕ) → length (placed offset codes) ≡ length codes
+pub length-placed : (offset : ℕ) (codes : List ℕ) → length (placed offset codes) ≡ length codes
 unfolding placed
 length-placed offset [] = refl
 length-placed offset (c ∷ codes) = ap suc (length-placed offset codes)

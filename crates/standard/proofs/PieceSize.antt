@@ -57,7 +57,7 @@ pub record Fits (names : List Name) (room : ℕ) (p : Piece) : Type 0 where
   pub short : Narrow names → length (p .text) ≤ p .size
 
 -- A code lists at most one error.
-listed-few : (code : ℕ) → length (listed code) ≤ 1
+pub listed-few : (code : ℕ) → length (listed code) ≤ 1
 listed-few code = if-both (λ (l : List ℕ). length l ≤ 1) (eqb code no-error) _ _ (λ t. omega arith) (λ f. omega arith)
 
 -- Every element of the front passes the test.
