@@ -82,6 +82,7 @@ module _ (names : List Name) (context : Context) where
   pub record Took (text errors : ℕ) (at : At) (s : List ℕ) (w : Walked) : Type 0 where
     pub count : ℕ
     pub within : count ≤ length s
+    pub counted : w .stop .taken ≡ at .taken + count
     pub before : Reading
     pub taken : go names context at (take count s) ≡ stopsAt done before (w .stop)
     pub gave : w .gives ≡ before ⊕ lastOf names context (w .answer) (w .stop .st)
@@ -98,6 +99,20 @@ module _ (names : List Name) (context : Context) where
   called (Illformed n) = inr refl
   called End = inl refl
 
+  -- A byte that is taken is counted.
+  move-counted : (at : At) (b : ℕ) → let own = at .part ++ b ∷ [] in eqb (calledFor context (readChar own)) done ≡ true
+      → moveBy names context at (readChar own) own .to .taken ≡ suc (at .taken)
+  move-counted at b = by (readChar own) refl
+    where
+      own : List ℕ
+      own = at .part ++ b ∷ []
+
+      by : (r : CharRead) → readChar own ≡ r → eqb (calledFor context r) done ≡ true → moveBy names context at r own .to .taken ≡ suc (at .taken)
+      by (Char c n) e f = refl
+      by (Incomplete n) e f = refl
+      by (Illformed n) e f = no-way (sym f)
+      by End e f = absurd (omega (arith, end-length own e, length-append (at .part) (b ∷ [])))
+
   -- A walk took some bytes, and all of them where it says so.
   pub walk-took : (text errors : ℕ) (at : At) (s : List ℕ) → Took text errors at s (walk names context text errors at s)
   unfolding walk go
@@ -105,6 +120,7 @@ module _ (names : List Name) (context : Context) where
       record {
         count = 0;
         within = omega arith;
+        counted = omega arith;
         before = nothing;
         taken = refl;
         gave = refl;
@@ -130,6 +146,7 @@ module _ (names : List Name) (context : Context) where
       by true taken room f y later = record {
         count = 0;
         within = omega arith;
+        counted = omega arith;
         before = nothing;
         taken = refl;
         gave = refl;
@@ -140,6 +157,7 @@ module _ (names : List Name) (context : Context) where
       by false false room f y later = record {
         count = 0;
         within = omega arith;
+        counted = omega arith;
         before = nothing;
         taken = refl;
         gave = refl;
@@ -160,6 +178,7 @@ module _ (names : List Name) (context : Context) where
       by false true room f y later = record {
         count = suc (later .count);
         within = omega (arith, later .within);
+        counted = omega (arith, later .counted, move-counted at b f);
         before = m .gives ⊕ later .before;
         taken = rw f (ap (onward (m .gives)) (later .taken));
         gave =

@@ -5,16 +5,16 @@ use mathlib.Core.Path.{_≡_}
 use mathlib.Core.List.{List, [], _∷_, _++_}
 use mathlib.Core.Bool.{Bool, true, false, not, _||_}
 use native.Mathlib.Omega.{arith}
-use lib.Dec.{ltb, eqb}
+use lib.Dec.{eqb}
 use lib.ListN.{length, getD, drop, length-append, length-drop}
-use borrow.Author.Tests.{eqb-true, not-false}
+use borrow.Author.Tests.{eqb-true}
 use Rattle.standard.specs.declared.Context.{Context}
 use Rattle.standard.specs.declared.characters.CharRead.{CharRead}
 use Rattle.standard.specs.declared.characters.CharRead.the-variants.{Char, Incomplete, Illformed, End}
 use Rattle.standard.specs.declared.names.Found.{Found}
 use Rattle.standard.specs.Notation.{if_then_else_}
 use Rattle.standard.specs.Utf8.{readChar}
-use Rattle.standard.specs.Answers.{done, context-end, longest-slice, longest-stream}
+use Rattle.standard.specs.Answers.{done, context-end}
 use Rattle.standard.specs.Classes.{alphanumeric, characterCode}
 use Rattle.standard.specs.Errors.{no-error, missing-semicolon-after-character-reference, unknown-named-character-reference}
 use Rattle.standard.specs.Names.{longest, begins}
@@ -63,7 +63,6 @@ use Rattle.decoder.specs.Stream.{
   walk,
   atOf,
   stOf,
-  isOpen,
   Outcome,
   closes,
   walkedTo,
@@ -73,7 +72,7 @@ use Rattle.decoder.specs.Stream.{
 use Rattle.decoder.specs.Turns.{Fits}
 use Rattle.decoder.specs.Feeding.{OpenAt, byteWalk}
 use Rattle.decoder.proofs.Open.{held-short}
-use Rattle.decoder.proofs.Returns.{opened, opened-at}
+use Rattle.decoder.proofs.Returns.{opened, opened-at, feed-cases, end-cases}
 use Rattle.decoder.proofs.Room.{room-only}
 use Rattle.decoder.proofs.Taking.{open-byte}
 use Rattle.decoder.proofs.Turning.{begins-short}
@@ -277,14 +276,11 @@ walk-fits context text errors at (b ∷ s) o =
 
 -- What a chunk gives fits its rooms, whatever the record.
 pub feed-fits : (r : Stream) (chunk : List ℕ) (text errors : ℕ) → FitsRooms text errors (feedOf builtin r chunk text errors .gives)
-unfolding feedOf walkedTo
+unfolding walkedTo
 feed-fits r chunk text errors =
-    if-both P (not (isOpen builtin r)) _ _ (λ t. none)
-    (λ o. if-both P (ltb longest-slice (length chunk)) _ _ (λ t. none)
-    (λ f. if-both P (ltb longest-stream (r .taken + length chunk)) _ _ (λ t. none)
-    (λ f. if-both P (lacksRoom text errors) _ _ (λ t. none)
-    (λ f. let h = walk-fits (r .context) text errors (atOf r) chunk (opened-at r (opened r (not-false (isOpen builtin r) o))) in
-    if-both P (closes (walk builtin (r .context) text errors (atOf r) chunk .answer)) _ _ (λ t. h) (λ f. h)))))
+    feed-cases P r text errors chunk (λ h. none) (λ h. none) (λ h. none) (λ h. none)
+    (λ o long room. let h = walk-fits (r .context) text errors (atOf r) chunk (opened-at r (opened r o)) in
+    if-both P (closes (walk builtin (r .context) text errors (atOf r) chunk .answer)) _ _ (λ t. h) (λ f. h))
   where
     P : Outcome → Type 0
     P o = FitsRooms text errors (o .gives)
@@ -294,16 +290,10 @@ feed-fits r chunk text errors =
 
 -- So does what the end gives.
 pub end-fits : (r : Stream) (text errors : ℕ) → FitsRooms text errors (endOf builtin r text errors .gives)
-unfolding endOf
 end-fits r text errors =
-    if-both P (not (isOpen builtin r)) _ _ (λ t. none)
-    (λ o. if-both P (lacksRoom text errors) _ _ (λ t. none)
-    (λ room. if-both P (ltb 0 (r .«part_count»)) _ _ (λ t. none)
-    (λ f. small-fits text errors (finish builtin (r .context) (stOf (r .held)))
-    (finish-few (r .context) (stOf (r .held)) (opened-at r (opened r (not-false (isOpen builtin r) o)) .fits)) room)))
+    end-cases (λ o. FitsRooms text errors (o .gives)) r text errors (λ h. none) (λ h. none) (λ h. none)
+    (λ o room h. small-fits text errors (finish builtin (r .context) (stOf (r .held)))
+    (finish-few (r .context) (stOf (r .held)) (opened-at r (opened r o) .fits)) room)
   where
-    P : Outcome → Type 0
-    P o = FitsRooms text errors (o .gives)
-
     none : FitsRooms text errors nothing
     none = (omega arith, omega arith)

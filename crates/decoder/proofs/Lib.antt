@@ -28,6 +28,7 @@ pub mod Returns
 pub mod Cuts
 pub mod Standing
 pub mod Fitting
+pub mod Counting
 pub mod TurnLaws
 pub mod Turning
 pub mod NameTurns

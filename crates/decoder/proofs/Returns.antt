@@ -2,12 +2,12 @@
 use Prim.Native.Nat.{ℕ, _+_, _-_, _/_, _≤_, _<_}
 use mathlib.Core.Path.{_≡_, refl, sym, _∙_, ap, subst}
 use mathlib.Core.List.{List}
-use mathlib.Core.Bool.{Bool, true, false}
+use mathlib.Core.Bool.{Bool, true, false, not}
 use mathlib.Core.Logic.{_⊎_}
 use native.Mathlib.Omega.{arith}
-use lib.Dec.{leb}
+use lib.Dec.{ltb, leb}
 use lib.ListN.{length, take, length-take}
-use borrow.Author.Tests.{leb-true, lt-ltb, le-ltb}
+use borrow.Author.Tests.{leb-true, lt-ltb, le-ltb, ltb-true, ltb-false, not-true, not-false}
 use Rattle.standard.specs.declared.Context.{Context}
 use Rattle.standard.specs.Notation.{if_then_else_}
 use Rattle.standard.specs.Answers.{done, ill-formed, too-long, stream-too-long, no-room, closed}
@@ -16,7 +16,7 @@ use Rattle.standard.specs.NameList.{builtin}
 use Rattle.standard.specs.Reading.{Reading}
 use Rattle.standard.specs.Rooms.{Wrote}
 use Rattle.standard.specs.Utf8.{readChar}
-use Rattle.standard.proofs.Choice.{and-true}
+use Rattle.standard.proofs.Choice.{if-both, and-true}
 use Rattle.standard.proofs.Puts.{numbers-length}
 use Rattle.decoder.specs.declared.feeding.Walked as code
 use Rattle.decoder.specs.declared.stream.Held.{Held}
@@ -28,6 +28,7 @@ use Rattle.decoder.specs.Stream.{
   placeOf,
   Walked,
   walk,
+  lacksRoom,
   heldOf,
   recordOf,
   closedBy,
@@ -144,6 +145,35 @@ module _ (r : Stream) (t e : ℕ) where
           unfolding feedOf
           feed-walks h i =
               rw (o, le-ltb 65536 (length chunk) short, le-ltb 16777216 (r .taken + length chunk) fits, room-so t e (h, i))
+
+-- What holds of each of its returns holds of what a call comes to.
+module _ (P : Outcome → Type 0) (r : Stream) (t e : ℕ) where
+  -- A chunk.
+  pub feed-cases : (chunk : List ℕ) → (isOpen builtin r ≡ false → P (refuses closed r)) → (65536 < length chunk → P (refuses too-long r))
+      → (16777216 < r .taken + length chunk → P (refuses stream-too-long r)) → (lacksRoom t e ≡ true → P (refuses no-room r))
+      → (isOpen builtin r ≡ true → r .taken + length chunk ≤ 16777216 → lacksRoom t e ≡ false
+      → P (walkedTo (r .context) (r .taken) (walk builtin (r .context) t e (atOf r) chunk)))
+      → P (feedOf builtin r chunk t e)
+  unfolding feedOf
+  feed-cases chunk eight three four five walks =
+      if-both P (not (isOpen builtin r)) _ _ (λ c. eight (not-true (isOpen builtin r) c))
+      (λ o. if-both P (ltb 65536 (length chunk)) _ _ (λ h. three (ltb-true 65536 (length chunk) h))
+      (λ h. if-both P (ltb 16777216 (r .taken + length chunk)) _ _ (λ k. four (ltb-true 16777216 (r .taken + length chunk) k))
+      (λ k. if-both P (lacksRoom t e) _ _ five
+      (walks (not-false (isOpen builtin r) o) (ltb-false 16777216 (r .taken + length chunk) k)))))
+
+  -- The end.
+  pub end-cases : (isOpen builtin r ≡ false → P (refuses closed r)) → (lacksRoom t e ≡ true → P (refuses no-room r))
+      → (0 < r .«part_count» → P (outcome ill-formed 0 (placeOf (atOf r)) nothing (closedBy (r .context) (r .taken))))
+      → (isOpen builtin r ≡ true → lacksRoom t e ≡ false → r .«part_count» ≤ 0
+      → P (outcome done 0 0 (finish builtin (r .context) (stOf (r .held))) (closedBy (r .context) (r .taken))))
+      → P (endOf builtin r t e)
+  unfolding endOf
+  end-cases eight five one none =
+      if-both P (not (isOpen builtin r)) _ _ (λ c. eight (not-true (isOpen builtin r) c))
+      (λ o. if-both P (lacksRoom t e) _ _ five
+      (λ room. if-both P (ltb 0 (r .«part_count»)) _ _ (λ h. one (ltb-true 0 (r .«part_count») h))
+      (λ h. none (not-false (isOpen builtin r) o) room (ltb-false 0 (r .«part_count») h))))
 
 -- A call that comes to nothing writes nothing.
 pub feeds-nothing : {o : Outcome} {answer taken place : ℕ} {r : Stream} {text errors : List ℕ} {fed : Fed} → o ≡ outcome answer taken place nothing r

@@ -5,9 +5,8 @@ use mathlib.Core.List.{List, [], _∷_, _++_}
 use mathlib.Core.Bool.{Bool, true, false, _||_}
 use mathlib.Core.Logic.{_≢_, _⊎_, inl, inr}
 use native.Mathlib.Omega.{arith}
-use lib.Dec.{ltb, eqb}
+use lib.Dec.{eqb}
 use lib.ListN.{length, take, length-append, length-take}
-use lib.Seq.{length-take-le}
 use Rattle.standard.specs.declared.Context.{Context}
 use Rattle.standard.specs.Notation.{if_then_else_}
 use Rattle.standard.specs.Answers.{
@@ -24,7 +23,7 @@ use Rattle.standard.specs.Answers.{
 }
 use Rattle.standard.specs.NameList.{builtin}
 use Rattle.standard.specs.Reading.{Reading, _⊕_}
-use Rattle.standard.proofs.Choice.{facts, if-both, no-way}
+use Rattle.standard.proofs.Choice.{if-both, no-way}
 use Rattle.standard.proofs.Puts.{⊕-none}
 use Rattle.decoder.specs.declared.stream.Stream.{Stream}
 use Rattle.standard.proofs.Utf8.{read-end}
@@ -60,6 +59,8 @@ use Rattle.decoder.proofs.Layer.{go-onward}
 use Rattle.decoder.proofs.StreamReads.{go-held}
 use Rattle.decoder.proofs.Tidy.{builtin-tidy}
 use Rattle.decoder.proofs.Open.{at-back, open-again}
+use Rattle.decoder.proofs.Returns.{feed-cases, end-cases}
+use Rattle.decoder.proofs.Room.{room-so}
 use Rattle.decoder.proofs.Cuts.{Sound, Took, walk-goes, walk-took, go-sound}
 
 -- The record of an open stream, with the bytes t taken and g given so far.
@@ -147,9 +148,7 @@ module _ {context : Context} {r : Stream} {t : List ℕ} {g : Reading} (s : Stan
     before = took .before;
     went-on = on;
     gave = took .gave;
-    counted =
-        go-held builtin context builtin-tidy (t ++ take (took .count) chunk) (g ⊕ took .before) (w .stop) on .1
-        ∙ length-append t (take (took .count) chunk) ∙ ap (λ (n : ℕ). length t + n) (length-take-le (took .count) chunk (took .within));
+    counted = took .counted ∙ ap (λ (n : ℕ). n + took .count) taken-here;
     all = took .all;
     some = took .some;
     says = took .says;
@@ -251,36 +250,43 @@ module _ {context : Context} {r : Stream} {t : List ℕ} {g : Reading} (s : Stan
           not-full : (answer : ℕ) → closes answer ≡ true → answer ≢ room-used-up
           not-full answer e f = no-way (sym e ∙ ap closes f)
 
+  -- The walk is one from the record.
+  recorded-walk : (chunk : List ℕ) (text errors : ℕ)
+      → walkedTo context (length t) (walk builtin context text errors (s .here) chunk) ≡ walkedTo (r .context) (r .taken) (walked chunk text errors)
+  recorded-walk chunk text errors =
+      λ i. walkedTo (sym standing-context i) (sym standing-taken i) (sym (walked-here chunk text errors) i)
+
   -- What holds of each refusal and of each walk that is not refused holds of what a chunk comes to.
   pub feed-is : (P : Outcome → Type 0) (chunk : List ℕ) (text errors : ℕ) → P (refuses too-long r) → P (refuses stream-too-long r)
       → P (refuses no-room r) → ((o : Outcome) → Comes chunk o → P o) → P (feedOf builtin r chunk text errors)
-  unfolding feedOf
   feed-is P chunk text errors three four five later =
-      rw standing-open
-      (if-both P (ltb longest-slice (length chunk)) _ _ (λ e. three)
-      (λ e. if-both P (ltb longest-stream (r .taken + length chunk)) _ _ (λ f. four)
-      (λ f. if-both P (lacksRoom text errors) _ _ (λ h. five)
-      (λ h. subst P
-      (λ i. walkedTo (sym standing-context i) (sym standing-taken i) (sym (walked-here chunk text errors) i))
+      feed-cases P r text errors chunk (λ e. no-way (sym standing-open ∙ e)) (λ h. three) (λ h. four) (λ h. five)
+      (λ o long room. subst P (recorded-walk chunk text errors)
       (later (walkedTo context (length t) (walk builtin context text errors (s .here) chunk))
-      (walk-comes chunk text errors (omega (facts, standing-taken)) h))))))
+      (walk-comes chunk text errors (omega (arith, standing-taken)) room)))
+
+  -- A chunk for which the table gives no 3, 4 or 5 is not refused.
+  pub feed-comes : (chunk : List ℕ) (text errors : ℕ) → length chunk ≤ longest-slice → length t + length chunk ≤ longest-stream
+      → (64 ≤ text) × (8 ≤ errors) → Comes chunk (feedOf builtin r chunk text errors)
+  feed-comes chunk text errors short long room =
+      feed-cases (Comes chunk) r text errors chunk (λ e. no-way (sym standing-open ∙ e)) (λ h. absurd (omega arith))
+      (λ h. absurd (omega (arith, standing-taken))) (λ lacks. no-way (sym lacks ∙ room-so text errors room))
+      (λ o h k. subst (Comes chunk) (recorded-walk chunk text errors) (walk-comes chunk text errors long k))
 
   -- What holds of a refusal and of both ways to end holds of what the end comes to.
   pub end-is : (P : Outcome → Type 0) (text errors : ℕ) → P (refuses no-room r)
       → (0 < length (s .here .part) → P (outcome ill-formed 0 (placeOf (s .here)) nothing (closedBy context (length t))))
       → (s .here .part ≡ [] → P (outcome done 0 0 (finish builtin context (s .here .st)) (closedBy context (length t))))
       → P (endOf builtin r text errors)
-  unfolding endOf recordOf
+  unfolding recordOf
   end-is P text errors five cut whole =
-      rw standing-open
-      (if-both P (lacksRoom text errors) _ _ (λ e. five)
-      (λ e. if-both P (ltb 0 (r .«part_count»)) _ _
-      (λ f. subst P (λ i. outcome ill-formed 0 (placeOf (sym standing-at i)) nothing (closedBy (sym standing-context i) (sym standing-taken i)))
-      (cut (omega (facts, count-is))))
-      (λ f. subst P
+      end-cases P r text errors (λ e. no-way (sym standing-open ∙ e)) (λ h. five)
+      (λ h. subst P (λ i. outcome ill-formed 0 (placeOf (sym standing-at i)) nothing (closedBy (sym standing-context i) (sym standing-taken i)))
+      (cut (omega (arith, count-is))))
+      (λ o room h. subst P
       (λ i. outcome done 0 0 (finish builtin (sym standing-context i) (sym standing-at i .st)) (closedBy (sym standing-context i)
       (sym standing-taken i)))
-      (whole (none (s .here .part) (omega (facts, count-is)))))))
+      (whole (none (s .here .part) (omega (arith, count-is)))))
     where
       count-is : r .«part_count» ≡ length (s .here .part)
       count-is = ap (λ (x : Stream). x .«part_count») (s .recorded)

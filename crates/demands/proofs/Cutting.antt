@@ -2,30 +2,32 @@
 -- lengths for which the table gives no 3, 4 or 5, with bytes not taken handed in again.
 use Prim.Native.Nat.{ℕ, _+_, _-_, _≤_, _<_}
 use mathlib.Core.Path.{_≡_, refl, sym, _∙_, ap, subst}
-use mathlib.Core.List.{List, [], _++_, append-assoc, append-nil}
-use mathlib.Core.Bool.{true, false}
+use mathlib.Core.List.{List, [], _∷_, _++_, append-assoc, append-nil}
+use mathlib.Core.Bool.{Bool, true, false}
 use mathlib.Core.Logic.{_≢_, _⊎_, inl, inr, ⊎-elim}
 use native.Mathlib.Omega.{arith}
-use lib.ListN.{length, take, drop, take-append-drop}
+use lib.ListN.{length, take, drop, length-append, length-take, take-append-drop}
 use lib.Seq.{drop-append-le}
 use Rattle.standard.specs.declared.Context.{Context}
-use Rattle.standard.specs.Answers.{done, ill-formed, nul, too-long, stream-too-long, no-room, context-end, closed}
+use Rattle.standard.specs.Answers.{done, ill-formed, nul, too-long, stream-too-long, no-room, room-used-up, context-end, closed, longest-stream}
 use Rattle.standard.specs.NameList.{builtin}
 use Rattle.standard.specs.Reading.{Stop, stops, stopOf, covered, Reading, _⊕_, decode}
-use Rattle.standard.proofs.Choice.{no-way}
+use Rattle.standard.proofs.Choice.{if-both, no-way}
+use Rattle.standard.proofs.Every.{All}
 use Rattle.standard.proofs.Puts.{⊕-assoc, ⊕-none}
 use Rattle.decoder.specs.declared.stream.Stream.{Stream}
 use Rattle.decoder.specs.Held.{released}
 use Rattle.decoder.specs.Machine.{nothing, finish}
-use Rattle.decoder.specs.Stream.{placeOf, Walked, stopsAt, Outcome, closes, feedOf, endOf, newStream}
+use Rattle.decoder.specs.Stream.{placeOf, Walked, stopsAt, lacksRoom, walk, atOf, Outcome, closes, walkedTo, feedOf, endOf, newStream}
 use Rattle.decoder.specs.Whole.{placeNamed}
 use Rattle.decoder.proofs.Bytes.{go, start}
 use Rattle.decoder.proofs.Layer.{go-stays}
 use Rattle.decoder.proofs.StreamReads.{go-held, go-ended, go-cut, go-stopped}
 use Rattle.decoder.proofs.Tidy.{builtin-tidy}
-use Rattle.demands.proofs.Held.{Still, Calls, left}
+use Rattle.decoder.proofs.Cuts.{Took, walk-took}
+use Rattle.decoder.proofs.Returns.{feed-cases, end-cases}
 use Rattle.decoder.proofs.Standing as standing
-use Rattle.decoder.proofs.Standing.{Standing, Closing, Comes, standing-new, feed-is, end-is}
+use Rattle.decoder.proofs.Standing.{Standing, Closing, Comes, standing-new, standing-open, feed-is, feed-comes, end-is}
 
 -- The table gives no 3, 4 or 5.
 abbrev pub Accepted : ℕ → Type 0
@@ -120,17 +122,18 @@ module _ {context : Context} {r : Stream} {t : List ℕ} {g₀ : Reading} (s : S
       by o (standing.stops f c) a e = closing o e c
 
   -- A chunk that does not close it.
-  stands-on : (chunk : List ℕ) (text errors : ℕ)
-      → let o = feedOf builtin r chunk text errors in Accepted (o .answer) → closes (o .answer) ≡ false
-      → Standing context (o .record′) (t ++ take (o .taken) chunk) (g₀ ⊕ o .gives) × (o .taken ≤ length chunk)
-  stands-on chunk text errors =
-      feed-is s
-      (λ o. Accepted (o .answer) → closes (o .answer) ≡ false
-      → Standing context (o .record′) (t ++ take (o .taken) chunk) (g₀ ⊕ o .gives) × (o .taken ≤ length chunk))
-      chunk text errors (λ a e. absurd (a .0 refl)) (λ a e. absurd (a .1 refl)) (λ a e. absurd (a .2 refl)) by
+  stands-on : (chunk : List ℕ) (text errors : ℕ) (o : Outcome) → o ≡ feedOf builtin r chunk text errors → Accepted (o .answer)
+      → closes (o .answer) ≡ false → Standing context (o .record′) (t ++ take (o .taken) chunk) (g₀ ⊕ o .gives) × (o .taken ≤ length chunk)
+  stands-on chunk text errors o is =
+      subst On (sym is)
+      (feed-is s On chunk text errors (λ a e. absurd (a .0 refl)) (λ a e. absurd (a .1 refl)) (λ a e. absurd (a .2 refl)) by)
     where
-      by : (o : Outcome) → Comes s chunk o → Accepted (o .answer) → closes (o .answer) ≡ false
+      On : Outcome → Type 0
+      On o =
+          Accepted (o .answer) → closes (o .answer) ≡ false
           → Standing context (o .record′) (t ++ take (o .taken) chunk) (g₀ ⊕ o .gives) × (o .taken ≤ length chunk)
+
+      by : (o : Outcome) → Comes s chunk o → On o
       by o (standing.goes f says all some within on) a e = (on, within)
       by o (standing.stops f c) a e = no-way (sym f ∙ e)
 
@@ -154,11 +157,7 @@ whole-run {context} {t = t} {g₀} s source (leaves r chunk later text errors o 
     → Whole context (t ++ (chunk ++ later)) (g₀ ⊕ o .gives) (o .answer) (o .place))
     (sym is) (whole-leaves s chunk later text errors) a e
 whole-run {context} {t = t} {g₀} s source (goes r chunk later text errors o is a e {g} {answer} {place} run) =
-    let on =
-    subst
-    (λ (o : Outcome). Accepted (o .answer) → closes (o .answer) ≡ false
-    → Standing context (o .record′) (t ++ take (o .taken) chunk) (g₀ ⊕ o .gives) × (o .taken ≤ length chunk))
-    (sym is) (stands-on s chunk text errors) a e in
+    let on = stands-on s chunk text errors o is a e in
     subst (λ (x : Reading). Whole context (t ++ (chunk ++ later)) x answer place) (⊕-assoc g₀ (o .gives) g)
     (same-source (again t chunk later (o .taken) (on .1)) (whole-run (on .0) (drop (o .taken) (chunk ++ later)) run))
 
@@ -167,30 +166,116 @@ pub cutting : (context : Context) (source : List ℕ) {g : Reading} {answer plac
     → Whole context source g answer place
 cutting context source run = whole-run (standing-new context) source run
 
--- 8 is never answered to a stream that is still open, as every one within a run is.
-pub never-closed : {context : Context} {r : Stream} {t : List ℕ} {g : Reading} → Calls context r t g Still → (chunk : List ℕ) (text errors : ℕ)
-    → (feedOf builtin r chunk text errors .answer ≢ closed) × (endOf builtin r text errors .answer ≢ closed)
-never-closed c chunk text errors =
-    let s = left c in (
-      feed-is s (λ o. o .answer ≢ closed) chunk text errors (λ e. omega arith) (λ e. omega arith) (λ e. omega arith) (λ o k e. by s k e),
-      end-is s (λ o. o .answer ≢ closed) text errors (λ e. omega arith) (λ h e. omega arith) (λ h e. omega arith),
-    )
-  where
-    by : {context : Context} {r : Stream} {t : List ℕ} {g : Reading} (s : Standing context r t g) {chunk : List ℕ} {o : Outcome}
-        → Comes s chunk o → o .answer ≡ closed → ⊥
-    by s (standing.goes f (inl d) all some within on) e = omega arith
-    by s (standing.goes f (inr d) all some within on) e = omega arith
-    by s (standing.stops f k) e = no-way (sym f ∙ ap closes e)
+-- The answers of a run's calls, one after the other.
+unfoldable pub answers : {r : Stream} {source : List ℕ} {g : Reading} {answer place : ℕ} → Runs r source g answer place → List ℕ
+answers (ends r text errors o is a) = o .answer ∷ []
+answers (leaves r chunk later text errors o is a e) = o .answer ∷ []
+answers (goes r chunk later text errors o is a e run) = o .answer ∷ answers run
 
--- Each call with a nonempty chunk that is not refused takes a byte or closes the stream, so every run ends.
-pub progress : {context : Context} {r : Stream} {t : List ℕ} {g : Reading} → Calls context r t g Still → (chunk : List ℕ) (text errors : ℕ)
-    → 0 < length chunk → let o = feedOf builtin r chunk text errors in Accepted (o .answer) → (closes (o .answer) ≡ true) ⊎ (0 < o .taken)
-progress c chunk text errors more =
-    feed-is (left c) (λ o. Accepted (o .answer) → (closes (o .answer) ≡ true) ⊎ (0 < o .taken)) chunk text errors (λ a. absurd (a .0 refl))
-    (λ a. absurd (a .1 refl)) (λ a. absurd (a .2 refl)) (λ o k a. by (left c) more k)
+module _ {context : Context} {r : Stream} {t : List ℕ} {g₀ : Reading} (s : Standing context r t g₀) where
+  -- An open stream answers no 8 to a chunk.
+  feed-not-closed : (chunk : List ℕ) (text errors : ℕ) (o : Outcome) → o ≡ feedOf builtin r chunk text errors → o .answer ≢ closed
+  feed-not-closed chunk text errors o is =
+      subst (λ (o : Outcome). o .answer ≢ closed) (sym is)
+      (feed-is s (λ o. o .answer ≢ closed) chunk text errors (λ e. omega arith) (λ e. omega arith) (λ e. omega arith) by)
+    where
+      by : (o : Outcome) → Comes s chunk o → o .answer ≢ closed
+      by o (standing.goes f (inl d) all some within on) e = omega arith
+      by o (standing.goes f (inr d) all some within on) e = omega arith
+      by o (standing.stops f k) e = no-way (sym f ∙ ap closes e)
+
+  -- Nor to its end.
+  end-not-closed : (text errors : ℕ) (o : Outcome) → o ≡ endOf builtin r text errors → o .answer ≢ closed
+  end-not-closed text errors o is =
+      subst (λ (o : Outcome). o .answer ≢ closed) (sym is)
+      (end-is s (λ o. o .answer ≢ closed) text errors (λ e. omega arith) (λ h e. omega arith) (λ h e. omega arith))
+
+-- Nor in a run from where it stands.
+run-not-closed : {context : Context} {r : Stream} {t : List ℕ} {g₀ : Reading} → Standing context r t g₀ → {source : List ℕ} {g : Reading}
+    {answer place : ℕ} (run : Runs r source g answer place) → All (λ (n : ℕ). n ≢ closed) (answers run)
+unfolding answers
+run-not-closed s (ends r text errors o is a) = (end-not-closed s text errors o is, tt)
+run-not-closed s (leaves r chunk later text errors o is a e) = (feed-not-closed s chunk text errors o is, tt)
+run-not-closed s (goes r chunk later text errors o is a e run) =
+    (feed-not-closed s chunk text errors o is, run-not-closed (stands-on s chunk text errors o is a e .0) run)
+
+-- Document 01: 8 is never answered in a run from a new stream.
+pub never-closed : (context : Context) {source : List ℕ} {g : Reading} {answer place : ℕ} (run : Runs (newStream context) source g answer place)
+    → All (λ (n : ℕ). n ≢ closed) (answers run)
+never-closed context run = run-not-closed (standing-new context) run
+
+-- Whatever the record, a call with a nonempty chunk that is not refused takes a byte or closes the stream.
+pub progress : (r : Stream) (chunk : List ℕ) (text errors : ℕ) → 0 < length chunk → let o = feedOf builtin r chunk text errors in
+    o .answer ≢ closed → Accepted (o .answer) → (closes (o .answer) ≡ true) ⊎ (0 < o .taken)
+unfolding walkedTo
+progress r chunk text errors more =
+    feed-cases P r text errors chunk (λ h n a. absurd (n refl)) (λ h n a. absurd (a .0 refl)) (λ h n a. absurd (a .1 refl))
+    (λ h n a. absurd (a .2 refl))
+    (λ o long room. if-both P (closes (w .answer)) _ _ (λ e n a. inl e) (λ f n a. inr (some room f (took .says))))
   where
-    by : {context : Context} {r : Stream} {t : List ℕ} {g : Reading} (s : Standing context r t g) {chunk : List ℕ} {o : Outcome}
-        → 0 < length chunk → Comes s chunk o → (closes (o .answer) ≡ true) ⊎ (0 < o .taken)
-    by s more (standing.goes f (inl d) all some within on) = inr (omega (arith, all d))
-    by s more (standing.goes f (inr d) all some within on) = inr (some d)
-    by s more (standing.stops f k) = inl f
+    P : Outcome → Type 0
+    P o = o .answer ≢ closed → Accepted (o .answer) → (closes (o .answer) ≡ true) ⊎ (0 < o .taken)
+
+    w : Walked
+    w = walk builtin (r .context) text errors (atOf r) chunk
+
+    took : Took builtin (r .context) text errors (atOf r) chunk (walk builtin (r .context) text errors (atOf r) chunk)
+    took = walk-took builtin (r .context) text errors (atOf r) chunk
+
+    some : lacksRoom text errors ≡ false → closes (w .answer) ≡ false
+        → (w .answer ≡ done) ⊎ ((w .answer ≡ room-used-up) ⊎ (closes (w .answer) ≡ true)) → 0 < w .stop .taken - r .taken
+    some room f (inl d) = omega (arith, took .counted, took .all d)
+    some room f (inr (inl d)) = omega (arith, took .counted, took .some room d)
+    some room f (inr (inr d)) = no-way (sym d ∙ f)
+
+-- There is a run of a stream over a source.
+abbrev pub HasRun : Stream → List ℕ → Type 0
+HasRun r source = (g : Reading) × (answer : ℕ) × (place : ℕ) × Runs r source g answer place
+
+-- What is not refused is accepted.
+comes-accepted : {context : Context} {r : Stream} {t : List ℕ} {g : Reading} (s : Standing context r t g) {chunk : List ℕ} {o : Outcome}
+    → Comes s chunk o → Accepted (o .answer)
+comes-accepted s (standing.goes f (inl d) all some within on) = (λ e. omega arith, λ e. omega arith, λ e. omega arith)
+comes-accepted s (standing.goes f (inr d) all some within on) = (λ e. omega arith, λ e. omega arith, λ e. omega arith)
+comes-accepted s (standing.stops {o = o} f c) =
+    (not-closing (o .answer) too-long f refl, not-closing (o .answer) stream-too-long f refl, not-closing (o .answer) no-room f refl)
+
+-- With enough room so is the end.
+end-accepted : {context : Context} {r : Stream} {t : List ℕ} {g : Reading} → Standing context r t g → Accepted (endOf builtin r 64 8 .answer)
+end-accepted {r = r} s =
+    end-cases (λ o. Accepted (o .answer)) r 64 8 (λ shut. no-way (sym (standing-open s) ∙ shut)) (λ lacks. no-way (sym lacks))
+    (λ h. (λ e. omega arith, λ e. omega arith, λ e. omega arith)) (λ o room h. (λ e. omega arith, λ e. omega arith, λ e. omega arith))
+
+-- Where a stream stands there is a run over each source that is not too long: byte by byte, with the least rooms.
+run-from : {context : Context} {r : Stream} {t : List ℕ} {g : Reading} → Standing context r t g → (source : List ℕ)
+    → length t + length source ≤ longest-stream → HasRun r source
+run-from {r = r} s [] long =
+    let o = endOf builtin r 64 8 in (o .gives, o .answer, o .place, ends r 64 8 o refl (end-accepted s))
+run-from {context} {r} {t} {g} s (b ∷ source) long = by (closes (o .answer)) refl (λ on short. run-from on source short)
+  where
+    o : Outcome
+    o = feedOf builtin r (b ∷ []) 64 8
+
+    comes : Comes s (b ∷ []) (feedOf builtin r (b ∷ []) 64 8)
+    comes = feed-comes s (b ∷ []) 64 8 (omega arith) (omega arith) (omega arith, omega arith)
+
+    accepted : Accepted (o .answer)
+    accepted = comes-accepted s comes
+
+    by : (u : Bool) → closes (o .answer) ≡ u
+        → (Standing context (o .record′) (t ++ take (o .taken) (b ∷ [])) (g ⊕ o .gives)
+        → length (t ++ take (o .taken) (b ∷ [])) + length source ≤ longest-stream → HasRun (o .record′) source)
+        → HasRun r (b ∷ source)
+    by true e later = (o .gives, o .answer, o .place, leaves r (b ∷ []) source 64 8 o refl accepted e)
+    by false e later =
+        let on = stands-on s (b ∷ []) 64 8 o refl accepted e in
+        let some : 0 < o .taken =
+        ⊎-elim (λ f. no-way (sym f ∙ e)) (λ h. h) (progress r (b ∷ []) 64 8 (omega arith) (feed-not-closed s (b ∷ []) 64 8 o refl) accepted) in
+        let one : o .taken ≡ 1 = omega (arith, on .1) in
+        let rest = later (on .0) (simp (length-append, length-take) (omega (arith, one))) in
+        let run = subst (λ (n : ℕ). Runs (o .record′) (drop n (b ∷ source)) (rest .0) (rest .1) (rest .2)) (sym one) (rest .3) in
+        (o .gives ⊕ rest .0, rest .1, rest .2, goes r (b ∷ []) source 64 8 o refl accepted e run)
+
+-- From a new stream there is one over each source that the table gives no 4 for.
+pub runs-exist : (context : Context) (source : List ℕ) → length source ≤ longest-stream → HasRun (newStream context) source
+runs-exist context source long = run-from (standing-new context) source (omega arith)
