@@ -21,13 +21,14 @@ use Rattle.standard.proofs.Puts.{⊕-assoc, ⊕-none}
 use Rattle.decoder.specs.declared.stream.Stream.{Stream}
 use Rattle.decoder.specs.Held.{released}
 use Rattle.decoder.specs.Machine.{nothing, finish}
-use Rattle.decoder.specs.Stream.{stopsAt, Outcome, holds, isOpen, heldOf, recordOf, closedBy, closes, feedOf, endOf, newStream}
+use Rattle.decoder.specs.Stream.{stopsAt, Outcome, holds, isOpen, heldOf, recordOf, closedBy, closes, feedOf, endOf, newStream, fedOf}
 use Rattle.decoder.proofs.Bytes.{start}
 use Rattle.decoder.proofs.StreamReads.{go-held, go-ended}
 use Rattle.decoder.proofs.Tidy.{builtin-tidy}
 use Rattle.decoder.proofs.Open.{fits-count}
+use Rattle.decoder.proofs.Counting.{feed-counts, end-counts}
 use Rattle.decoder.proofs.Cuts.{go-end}
-use Rattle.decoder.proofs.Standing.{Standing, Closing, Comes, goes, stops, sound-start, standing-new, standing-taken, feed-is, end-is}
+use Rattle.decoder.proofs.Standing.{Standing, Closing, Comes, goes, stops, sound-start, standing-new, standing-taken, standing-open, feed-is, end-is}
 
 -- A stream is still open, or an answer closed it.
 pub data Phase : Type 0 where
@@ -49,6 +50,12 @@ pub data Calls (context : Context) : Stream → List ℕ → Reading → Phase �
   ends : {r : Stream} {t : List ℕ} {g : Reading} {phase : Phase} → Calls context r t g phase → (text errors : ℕ) (o : Outcome)
       → o ≡ endOf builtin r text errors → Calls context (o .record′) t (g ⊕ o .gives) (ended phase (o .answer))
 
+-- The sum of the counts of bytes taken that the calls answer.
+unfoldable pub takenSum : {context : Context} {r : Stream} {t : List ℕ} {g : Reading} {phase : Phase} → Calls context r t g phase → ℕ
+takenSum new = 0
+takenSum (feeds c chunk text errors o is) = takenSum c + o .taken
+takenSum (ends c text errors o is) = takenSum c + o .taken
+
 -- What is given of the bytes taken: what the held rule releases, and after 0 or 7 all of them.
 abbrev pub Gave : Context → List ℕ → Reading → Phase → Type 0
 Gave context t g Still = g ≡ released builtin context t
@@ -67,6 +74,17 @@ closed-closed context n = by (leb n longest-stream) _ _ _
     by : (t p a b : Bool) → (((t && false) && p) && a) && b ≡ false
     by true p a b = refl
     by false p a b = refl
+
+-- No answer closed the stream.
+abbrev pub isStill : Phase → Bool
+isStill Still = true
+isStill (By answer) = false
+
+-- As long as that is so it counts as open, and then as closed.
+left-open : (context : Context) (r : Stream) (t : List ℕ) (g : Reading) (phase : Phase) → Left context r t g phase
+    → isOpen builtin r ≡ isStill phase
+left-open context r t g Still s = standing-open s
+left-open context r t g (By answer) w = ap (isOpen builtin) (w .0) ∙ closed-closed context (length t)
 
 -- An answer that closes a stream while it is fed is not 0.
 not-done : (answer : ℕ) → closes answer ≡ true → eqb answer done ≡ false
@@ -138,9 +156,7 @@ module _ (context : Context) (r : Stream) (t : List ℕ) (g : Reading) where
       Left context (o .record′) (t ++ take (o .taken) chunk) (g ⊕ o .gives) (fed phase (o .answer))
   unfolding feedOf
   feed-left Still s chunk text errors = after-feed s chunk text errors
-  feed-left (By answer) w chunk text errors =
-      let shut : isOpen builtin r ≡ false = ap (isOpen builtin) (w .0) ∙ closed-closed context (length t) in
-      rw shut (same context r t g (By answer) w)
+  feed-left (By answer) w chunk text errors = rw (left-open context r t g (By answer) w) (same context r t g (By answer) w)
 
   -- And every end.
   end-left : (phase : Phase) → Left context r t g phase → (text errors : ℕ)
@@ -148,8 +164,7 @@ module _ (context : Context) (r : Stream) (t : List ℕ) (g : Reading) where
   unfolding endOf
   end-left Still s text errors = after-end s text errors
   end-left (By answer) w text errors =
-      let shut : isOpen builtin r ≡ false = ap (isOpen builtin) (w .0) ∙ closed-closed context (length t) in
-      rw shut (subst (λ (x : Reading). Left context r t x (By answer)) (sym (⊕-none g)) w)
+      rw (left-open context r t g (By answer) w) (subst (λ (x : Reading). Left context r t x (By answer)) (sym (⊕-none g)) w)
 
 -- Every call leaves it so.
 pub left : {context : Context} {r : Stream} {t : List ℕ} {g : Reading} {phase : Phase} → Calls context r t g phase → Left context r t g phase
@@ -161,11 +176,31 @@ left {context} (ends {r} {t} {g} {phase} c text errors o is) =
     subst (λ (o : Outcome). Left context (o .record′) t (g ⊕ o .gives) (ended phase (o .answer))) (sym is)
     (end-left context r t g phase (left c) text errors)
 
--- The record's taken count is that of the bytes taken, and what was given is what the rule releases of them.
-pub held : {context : Context} {r : Stream} {t : List ℕ} {g : Reading} {phase : Phase} → Calls context r t g phase
-    → (r .taken ≡ length t) × Gave context t g phase
+-- No call takes more bytes than its chunk has, whatever the record.
+pub taken-within : (r : Stream) (chunk : List ℕ) (text errors : ℕ) → feedOf builtin r chunk text errors .taken ≤ length chunk
+taken-within r chunk text errors = feed-counts r chunk text errors .1
+
+-- The counts of a call's result: bytes taken, text bytes and errors written.
+pub counts : (o : Outcome) → (fedOf o .taken ≡ o .taken) × (fedOf o .text ≡ length (o .gives .text)) × (fedOf o .errors ≡ length (o .gives .errors))
+unfolding fedOf
+counts o = (refl, refl, refl)
+
+-- The record's taken count is the sum of those that the calls answer.
+taken-sum : {context : Context} {r : Stream} {t : List ℕ} {g : Reading} {phase : Phase} (c : Calls context r t g phase) → r .taken ≡ takenSum c
+unfolding takenSum newStream recordOf
+taken-sum new = refl
+taken-sum (feeds {r} c chunk text errors o is) =
+    subst (λ (x : Outcome). x .record′ .taken ≡ takenSum c + x .taken) (sym is)
+    (feed-counts r chunk text errors .0 ∙ ap (λ (n : ℕ). n + feedOf builtin r chunk text errors .taken) (taken-sum c))
+taken-sum (ends {r} c text errors o is) =
+    subst (λ (x : Outcome). x .record′ .taken ≡ takenSum c + x .taken) (sym is)
+    (omega (arith, end-counts r text errors, taken-sum c))
+
+-- The record's taken count is the sum of the taken counts and the number of bytes taken, and what was given is what the rule releases of these.
+pub held : {context : Context} {r : Stream} {t : List ℕ} {g : Reading} {phase : Phase} (c : Calls context r t g phase)
+    → (r .taken ≡ takenSum c) × (r .taken ≡ length t) × Gave context t g phase
 unfolding closedBy
-held {context} {r} {t} {g} {phase} c = by phase (left c)
+held {context} {r} {t} {g} {phase} c = let w = by phase (left c) in (taken-sum c, w .0, w .1)
   where
     by : (phase : Phase) → Left context r t g phase → (r .taken ≡ length t) × Gave context t g phase
     by Still s = (standing-taken s, go-held builtin context builtin-tidy t g (s .here) (s .went) .0)
@@ -173,6 +208,15 @@ held {context} {r} {t} {g} {phase} c = by phase (left c)
       where
         taken : r ≡ closedBy context (length t) → r .taken ≡ length t
         taken e = ap (λ (x : Stream). x .taken) e
+
+-- Document 01: a new stream is open.
+pub new-open : (context : Context) → isOpen builtin (newStream context) ≡ true
+new-open context = standing-open (standing-new context)
+
+-- Only an answer whose line says closed closes it: until one is given the stream counts as open, and from then on as closed.
+pub open-until-closed : {context : Context} {r : Stream} {t : List ℕ} {g : Reading} {phase : Phase} → Calls context r t g phase
+    → isOpen builtin r ≡ isStill phase
+open-until-closed {context} {r} {t} {g} {phase} c = left-open context r t g phase (left c)
 
 -- Document 01: the store of held bytes has at most 32, whatever the source.
 pub store-fits : {context : Context} {r : Stream} {t : List ℕ} {g : Reading} {phase : Phase} → Calls context r t g phase → r .held .count ≤ 32
