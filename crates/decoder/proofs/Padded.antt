@@ -5,16 +5,12 @@ use mathlib.Core.List.{List, [], _∷_, _++_, append-assoc}
 use native.Mathlib.Omega.{arith}
 use native.Mathlib.Numerals.{add-one}
 use lib.ListN.{length, getD, take, set, replicate, length-append, length-replicate}
-use lib.Seq.{set-at, take-at, take-suc, length-take-le}
+use lib.Seq.{set-at, take-suc, length-take-le}
 use Rattle.decoder.specs.Stream.{padded}
 
 -- It is as long as it is to be.
 pub padded-length : (n : ℕ) (l : List ℕ) → length l ≤ n → length (padded n l) ≡ n
 padded-length n l h = length-append l (replicate (n - length l) 0) ∙ ap (λ (k : ℕ). length l + k) (length-replicate (n - length l) 0) ∙ omega arith
-
--- Its front is the list.
-pub padded-front : (n : ℕ) (l : List ℕ) (k : ℕ) → length l ≡ k → take k (padded n l) ≡ l
-padded-front n l k e = take-at l (replicate (n - length l) 0) k e
 
 -- One element more is stored after the list.
 pub padded-more : (n : ℕ) (l : List ℕ) (k b : ℕ) → length l ≡ k → k < n → set (padded n l) k b ≡ padded n (l ++ b ∷ [])

@@ -41,18 +41,6 @@ pieces-induction names context P none more s = from 0 s
         (subst (λ (l : List ℕ). P l ps) (drop-pred (p .size) b s (piece-size names context (b ∷ s) (omega arith) .0)) (from (p .size - 1) s))
     from (suc k) (b ∷ s) = from k s
 
--- How many bytes pieces have.
-unfoldable pub total : List Piece → ℕ
-total [] = 0
-total (p ∷ ps) = p .size + total ps
-
--- The sizes of the pieces of a source add up to its length.
-pub sizes-sum : (names : List Name) (context : Context) (s : List ℕ) → total (pieces names context s) ≡ length s
-unfolding total
-sizes-sum names context =
-    pieces-induction names context (λ s ps. total ps ≡ length s) refl
-    (λ s ps h e. omega (arith, piece-size names context s h, length-drop (pieceAt names context s .size) s))
-
 -- As many errors are placed as there are codes.
 pub length-placed : (offset : ℕ) (codes : List ℕ) → length (placed offset codes) ≡ length codes
 unfolding placed

@@ -1,6 +1,6 @@
 -- Laws of the character at the front of some bytes, as specs/Utf8.antt reads it.
 use Prim.Native.Nat.{ℕ, zero, suc, _+_, _-_, _*_, _/_, _%_, _≤_, _<_}
-use mathlib.Core.Path.{_≡_, refl, sym, _∙_, ap, subst}
+use mathlib.Core.Path.{_≡_, refl, sym, _∙_, subst}
 use mathlib.Core.List.{List, [], _∷_, _++_}
 use mathlib.Core.Bool.{Bool, true, false}
 use mathlib.Core.Logic.{_≢_, _⊎_}
@@ -224,41 +224,29 @@ incomplete-length s n e = let w = read-within s (Incomplete n) e in omega arith
 pub illformed-length : (s : List ℕ) (n : ℕ) → readChar s ≡ Illformed n → (n < length s) × (n ≤ 3)
 illformed-length s n e = let w = read-within s (Illformed n) e in omega arith
 
--- The tails that are asked for give the character, and fewer are a beginning.
-tails-take : (need low high bits len : ℕ) (s : List ℕ) (a m j : ℕ) → tails need low high bits len s ≡ Char a m
-    → (need ≤ j → tails need low high bits len (take j s) ≡ Char a m) × (j < need → tails need low high bits len (take j s) ≡ Incomplete (len + j))
+-- The tails that are asked for give the character.
+tails-take : (need low high bits len : ℕ) (s : List ℕ) (a m j : ℕ) → tails need low high bits len s ≡ Char a m → need ≤ j
+    → tails need low high bits len (take j s) ≡ Char a m
 unfolding tails
-tails-take zero low high bits len s a m j h = (λ p. h, λ p. absurd (omega arith))
-tails-take (suc n) low high bits len [] a m j h = absurd (whole h)
-tails-take (suc n) low high bits len (b ∷ s) a m zero h = (λ p. absurd (omega arith), λ p. ap Incomplete (omega arith))
-tails-take (suc n) low high bits len (b ∷ s) a m (suc j) h =
+tails-take zero low high bits len s a m j h p = h
+tails-take (suc n) low high bits len [] a m j h p = absurd (whole h)
+tails-take (suc n) low high bits len (b ∷ s) a m zero h p = absurd (omega arith)
+tails-take (suc n) low high bits len (b ∷ s) a m (suc j) h p =
     let w = if-char (between low high b) _ len a m h in
-    let v = tails-take n 0x80 0xBF (bits * 64 + b % 64) (suc len) s a m j (w .1) in
-    (λ p. rw (w .0) (v .0 (omega arith)), λ p. rw (w .0) (v .1 (omega arith) ∙ ap Incomplete (omega arith)))
+    rw (w .0) (tails-take n 0x80 0xBF (bits * 64 + b % 64) (suc len) s a m j (w .1) (omega arith))
 
 -- The same after a first byte.
-after-take : (l : Lead) (s : List ℕ) (a m j : ℕ) → afterLead l s ≡ Char a m
-    → (m ≤ suc j → afterLead l (take j s) ≡ Char a m) × (suc j < m → afterLead l (take j s) ≡ Incomplete (suc j))
+after-take : (l : Lead) (s : List ℕ) (a m : ℕ) → afterLead l s ≡ Char a (suc m) → afterLead l (take m s) ≡ Char a (suc m)
 unfolding afterLead
-after-take Bad s a m j h = absurd (whole h)
-after-take (Good need low high bits) s a m j h =
+after-take Bad s a m h = absurd (whole h)
+after-take (Good need low high bits) s a m h =
     let k = tails-within need low high bits 1 (suc need) (suc (length s)) s (omega arith) (omega arith) (omega arith) in
     let e = subst (Within (suc need) (suc (length s))) h k in
-    let v = tails-take need low high bits 1 s a m j h in
-    (λ p. v .0 (omega arith), λ p. v .1 (omega arith) ∙ ap Incomplete (omega arith))
-
--- The same with the first byte.
-read-taken : (s : List ℕ) (a m j : ℕ) → 0 < j → readChar s ≡ Char a m
-    → (m ≤ j → readChar (take j s) ≡ Char a m) × (j < m → readChar (take j s) ≡ Incomplete j)
-unfolding readChar
-read-taken [] a m j p h = absurd (whole h)
-read-taken (b ∷ s) a m zero p h = absurd (omega arith)
-read-taken (b ∷ s) a m (suc j) p h = after-take (leadOf b) s a m j h
+    tails-take need low high bits 1 s a (suc m) m h (omega arith)
 
 -- A character's own bytes alone give it.
 pub read-take : (s : List ℕ) (a m : ℕ) → readChar s ≡ Char a m → readChar (take m s) ≡ Char a m
-read-take s a m h = let k = read-length s a m h in read-taken s a m m (omega arith) h .0 (omega arith)
-
--- Fewer of a character's bytes, and at least one, are a beginning.
-pub read-short : (s : List ℕ) (a m j : ℕ) → 0 < j → j < m → readChar s ≡ Char a m → readChar (take j s) ≡ Incomplete j
-read-short s a m j p q h = read-taken s a m j p h .1 q
+unfolding readChar
+read-take [] a m h = absurd (whole h)
+read-take (b ∷ s) a zero h = absurd (omega (arith, read-length (b ∷ s) a zero h))
+read-take (b ∷ s) a (suc m) h = after-take (leadOf b) s a m h
