@@ -42,7 +42,8 @@ use Rattle.decoder.specs.Machine.{
   stepNamed,
   step,
 }
-use Rattle.decoder.specs.Stream.{At, atBy, Walked, stopsAt, onward, lacksRoom, walk, calledFor, Move, moveBy, lastOf}
+use Rattle.decoder.specs.Stream.{At, atBy, Walked, stopsAt, onward, walk, calledFor, Move, moveBy, lastOf}
+use Rattle.decoder.proofs.Room.{room-so}
 use Rattle.decoder.proofs.Bytes.{go}
 use Rattle.decoder.proofs.Looks.{ascii}
 use Rattle.decoder.proofs.Means.{Valid, Mean}
@@ -141,8 +142,7 @@ walk-roomy : (context : Context) (text errors : ℕ) (at : At) (s : List ℕ) {g
 unfolding walk go
 walk-roomy context text errors at [] e h k = e
 walk-roomy context text errors at (b ∷ s) {g} {here} e h k =
-    let room : lacksRoom text errors ≡ false = rw (le-ltb text 64 (omega arith), le-ltb errors 8 (omega arith)) in
-    rw room
+    rw (room-so text errors (omega arith, omega arith))
     (by (eqb (calledFor context (readChar own)) done) e
     (λ x y z w. walk-roomy context (text - length (m .gives .text)) (errors - 2 * length (m .gives .errors)) (m .to) s {g = x} y z w))
   where

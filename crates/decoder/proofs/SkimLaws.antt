@@ -9,7 +9,7 @@ use native.Mathlib.Omega.{arith}
 use lib.Dec.{eqb}
 use lib.ListN.{length, getD, take, drop, length-take, length-drop, drop-of-length-le}
 use lib.Seq.{getD-take, getD-drop, take-suc, length-take-le, take-all, take-add, take-take, drop-at, drop-drop}
-use borrow.Author.Tests.{le-ltb, eqb-true, ne-eqb}
+use borrow.Author.Tests.{eqb-true, ne-eqb}
 use Rattle.standard.specs.declared.Context.{Context}
 use Rattle.standard.specs.declared.Context.the-variants.{Text, Attribute}
 use Rattle.standard.specs.declared.characters.CharRead.the-variants.{Char}
@@ -38,7 +38,7 @@ use Rattle.decoder.specs.declared.stream.Stream.{Stream}
 use Rattle.decoder.specs.Machine.{Data, Step, nothing, stepData, step}
 use Rattle.decoder.specs.Pieces.{pieceOf, oneOf}
 use Rattle.decoder.specs.Runs.{plain, endOf}
-use Rattle.decoder.specs.Stream.{At, atBy, Walked, stopsAt, onward, lacksRoom, walk, isPart, stBy, heldOf, recordOf, atOf}
+use Rattle.decoder.specs.Stream.{At, atBy, Walked, stopsAt, onward, walk, isPart, stBy, heldOf, recordOf, atOf}
 use Rattle.decoder.specs.Turns.{Fits}
 use Rattle.decoder.specs.Feeding.{OpenAt, Open, Moves}
 use Rattle.decoder.specs.Skims.{Runs, inReference, Closes, Ends, Stands, Alone, Skims}
@@ -47,11 +47,8 @@ use Rattle.decoder.proofs.PieceLaws.{character-read}
 use Rattle.decoder.proofs.Looks.{Looks, ascii, wide, looks, passes-ascii, alphanumeric-ascii}
 use Rattle.decoder.proofs.Quiet.{plain-is, plain-calls, calls-none}
 use Rattle.decoder.proofs.Unfolding.{all-append}
+use Rattle.decoder.proofs.Room.{room-so}
 use Rattle.decoder.proofs.Walks.{walk-more, walk-char}
-
--- Room for a byte.
-roomy : (text errors : ℕ) → 64 ≤ text → 8 ≤ errors → lacksRoom text errors ≡ false
-roomy text errors h k = rw (le-ltb text 64 h, le-ltb errors 8 k)
 
 -- What a step with nothing held comes to, with the walk after it.
 abbrev stepped : Context → (text errors p c k : ℕ) (own rest : List ℕ) → Walked
@@ -71,7 +68,7 @@ module _ (context : Context) where
       let own = read-take s c n read in
       let long : length (take n s) ≡ n = length-take-le n s (some .2) in
       let all : length (take n s) ≤ n = omega (arith, long) in
-      walk-char builtin context text errors (roomy text errors h k) Data [] p c n (take n s) own (omega (arith, some)) calls
+      walk-char builtin context text errors (room-so text errors (h, k)) Data [] p c n (take n s) own (omega (arith, some)) calls
       ∙ ap₂ (λ (q m : ℕ). stepped context text errors q c (p + m) (take n (take n s)) (drop m (take n s)))
       (let i : p - 0 ≡ p = omega arith in i) (let i : n - 0 ≡ n = omega arith in i)
       ∙ ap₂ (λ (own rest : List ℕ). stepped context text errors p c (p + n) own rest) (take-all n (take n s) all)

@@ -2,13 +2,13 @@
 use Prim.Native.Nat.{ℕ, suc, _+_, _-_, _*_, _≤_, _<_}
 use mathlib.Core.Path.{_≡_, refl, sym, _∙_, ap, ap₂, subst}
 use mathlib.Core.List.{List, [], _∷_, _++_}
-use mathlib.Core.Bool.{Bool, true, false, not, _||_}
-use mathlib.Core.Logic.{_≢_, _⊎_, inl, inr, ⊎-elim}
+use mathlib.Core.Bool.{Bool, true, false, not}
+use mathlib.Core.Logic.{_≢_, _⊎_}
 use native.Mathlib.Omega.{arith}
-use lib.Dec.{eqb, ltb}
+use lib.Dec.{eqb}
 use lib.ListN.{length, getD, take, drop, length-append, length-drop, take-append-drop, drop-of-length-le}
-use lib.Seq.{drop-cons, take-add, take-all, take-append-le}
-use borrow.Author.Tests.{lt-ltb, le-ltb, eqb-false}
+use lib.Seq.{drop-cons, take-add, take-all}
+use borrow.Author.Tests.{eqb-false}
 use Rattle.standard.specs.declared.Context.{Context}
 use Rattle.standard.specs.declared.characters.CharRead.{CharRead}
 use Rattle.standard.specs.declared.characters.CharRead.the-variants.{Char, Incomplete, Illformed, End}
@@ -19,9 +19,8 @@ use Rattle.standard.specs.NameList.{builtin}
 use Rattle.standard.specs.Reading.{callsFor, Reading, _⊕_}
 use Rattle.standard.specs.Rooms.{Wrote}
 use Rattle.standard.proofs.Back.{read-back}
-use Rattle.standard.proofs.Choice.{no-way, below?}
 use Rattle.standard.proofs.Puts.{wrote-none, wrote-join, put-length, numbers-length}
-use Rattle.standard.proofs.Utf8.{read-append, read-length, read-take, read-end, end-length, incomplete-length}
+use Rattle.standard.proofs.Utf8.{read-end, end-length, incomplete-length}
 use Rattle.decoder.specs.declared.stream.Stream.{Stream}
 use Rattle.decoder.specs.declared.feeding.Walked as code
 use Rattle.decoder.specs.Machine.{nothing, step}
@@ -29,7 +28,9 @@ use Rattle.decoder.specs.Stream.{At, placeOf, calledFor, moveBy, Walked,
 use Rattle.decoder.specs.Turns.{Fits}
 use Rattle.decoder.specs.Feeding.{OpenAt, Open, byteWalk, Walks, Bounded, Moves}
 use Rattle.decoder.proofs.Keeps.{step-fits}
+use Rattle.decoder.proofs.Layer.{completes-own}
 use Rattle.decoder.proofs.Open.{at-back}
+use Rattle.decoder.proofs.Room.{lacks-so, room-so}
 use Rattle.decoder.proofs.Walks.{walkAfter, walk-on, walk-stops, walk-one, walk-full}
 
 -- The record of where an open stream is.
@@ -39,24 +40,11 @@ open-record context {at} o =
     let back = at-back context at (o .fits) in
     record { whole = ap (recordOf context) (sym back); at = subst OpenAt (sym back) o }
 
--- A character that is whole with one byte more has all of its bytes.
-own-whole : (part : List ℕ) (b c n : ℕ) → isPart (readChar part) ≡ true → readChar (part ++ b ∷ []) ≡ Char c n → n ≡ length (part ++ b ∷ [])
-own-whole part b c n begun e =
-    ⊎-elim (λ (h : n < length (part ++ b ∷ [])). no-way (sym begun ∙ ap isPart (sooner h)))
-    (λ (h : length (part ++ b ∷ []) ≤ n). omega (arith, read-length (part ++ b ∷ []) c n e)) (below? n (length (part ++ b ∷ [])))
-  where
-    sooner : n < length (part ++ b ∷ []) → readChar part ≡ Char c n
-    sooner h =
-        let short : n ≤ length part = omega (arith, length-append part (b ∷ [])) in
-        ap readChar (sym (take-append-drop n part))
-        ∙ read-append (take n part) (drop n part) (Char c n)
-        (ap readChar (sym (take-append-le n part (b ∷ []) short)) ∙ read-take (part ++ b ∷ []) c n e) tt
-
--- So they are those that it is written with.
+-- The bytes of a character that is whole with one byte more are those that it is written with.
 pub own-encoded : (part : List ℕ) (b c n : ℕ) → isPart (readChar part) ≡ true → readChar (part ++ b ∷ []) ≡ Char c n → encode c ≡ part ++ b ∷ []
 own-encoded part b c n begun e =
     let own = part ++ b ∷ [] in
-    read-back own c n e .0 ∙ take-all n own (omega (arith, own-whole part b c n begun e))
+    read-back own c n e .0 ∙ take-all n own (omega (arith, completes-own part b c n begun e))
 
 -- A byte that is taken leaves the stream open, and is counted.
 pub open-byte : (context : Context) {at : At} (b : ℕ) → OpenAt at → byteWalk builtin context at b .answer ≡ done
@@ -290,7 +278,7 @@ module _ {start : Stream} {chunk text₀ errors₀ : List ℕ} where
 
       -- There is room for it.
       room : lacksRoom (length text - w) (length errors - e) ≡ false
-      room = rw (le-ltb (length text - w) 64 (omega arith), le-ltb (length errors - e) 8 (omega arith))
+      room = room-so (length text - w) (length errors - e) (omega arith, omega arith)
 
       -- The walk over it, from where the stream is.
       abbrev byte : Walked
@@ -356,18 +344,10 @@ module _ {start : Stream} {chunk text₀ errors₀ : List ℕ} where
     taken-full more lacks = (
       taken-ends room-used-up nothing (g .here)
           (walk-full builtin (start .context) (length text - w) (length errors - e) (g .here) (drop at chunk) (simp length-drop (omega arith))
-          (full lacks))
+          (lacks-so (length text - w) (length errors - e) lacks))
           refl (g .recorded) (wrote-none text w errors e),
       ended-bounded room-used-up,
     )
-      where
-        full : (length text - w < 64) ⊎ (length errors - e < 8) → lacksRoom (length text - w) (length errors - e) ≡ true
-        full (inl h) = rw (lt-ltb (length text - w) 64 h)
-        full (inr h) = go (ltb (length text - w) 64)
-          where
-            go : (t : Bool) → t || ltb (length errors - e) 8 ≡ true
-            go true = refl
-            go false = lt-ltb (length errors - e) 8 h
 
     -- All of the chunk is taken.
     pub taken-all : length chunk ≤ at
