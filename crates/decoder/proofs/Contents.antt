@@ -1,32 +1,15 @@
--- Laws of what is written into the rooms: the text of a reference, and codes of errors as numbers.
+-- Laws of what is written into the error room: codes of errors as numbers.
 use Prim.Native.Nat.{ℕ, _≤_}
 use mathlib.Core.Path.{_≡_, refl, _∙_, ap}
-use mathlib.Core.List.{List, [], _∷_, _++_, append-nil}
+use mathlib.Core.List.{List, [], _∷_, _++_}
 use native.Mathlib.Omega.{arith}
 use lib.Dec.{eqb}
-use lib.ListN.{length, getD, take, length-append}
-use lib.Seq.{take-all}
-use Rattle.standard.specs.Utf8.{encode}
+use lib.ListN.{length, length-append}
 use Rattle.standard.specs.Errors.{no-error, listed, Error, error, placed, numbers}
-use Rattle.standard.specs.Pieces.{encodes}
 use Rattle.standard.proofs.Choice.{if-both}
 use Rattle.standard.proofs.Puts.{numbers-append}
 use Rattle.decoder.specs.declared.pieces.Piece.{Piece}
 use Rattle.decoder.specs.Pieces.{pieceOf}
-
--- The text of the first of two characters.
-pub encodes-one : (l : List ℕ) → length l ≡ 2 → encodes (take 1 l) ≡ encode (getD l 0 0)
-unfolding encodes
-encodes-one [] e = absurd (omega arith)
-encodes-one (a ∷ l) e = append-nil (encode a)
-
--- The text of both, where two or more are asked for.
-pub encodes-both : (l : List ℕ) (n : ℕ) → length l ≡ 2 → 2 ≤ n → encodes (take n l) ≡ encode (getD l 0 0) ++ encode (getD l 1 0)
-unfolding encodes
-encodes-both [] n e h = absurd (omega arith)
-encodes-both (a ∷ []) n e h = absurd (omega arith)
-encodes-both (a ∷ b ∷ []) n e h = rw (take-all n (a ∷ b ∷ []) h) (ap (λ (t : List ℕ). encode a ++ t) (append-nil (encode b)))
-encodes-both (a ∷ b ∷ c ∷ l) n e h = absurd (omega arith)
 
 -- Joined codes at one place are the errors of each.
 placed-append : (offset : ℕ) (a b : List ℕ) → placed offset (a ++ b) ≡ placed offset a ++ placed offset b

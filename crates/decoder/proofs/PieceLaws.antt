@@ -1,13 +1,9 @@
 -- Laws of a piece: of one character, and at the front of some bytes by the first of them.
 use Prim.Native.Nat.{ℕ, _<_}
 use Prim.Native.Char.{code}
-use mathlib.Core.Path.{_≡_, refl, _∙_}
-use mathlib.Core.List.{List, [], _∷_, _++_, append-nil}
-use mathlib.Core.Logic.{_≢_}
-use native.Mathlib.Omega.{arith}
-use lib.Dec.{eqb}
+use mathlib.Core.Path.{_≡_, sym, _∙_}
+use mathlib.Core.List.{List, _++_, append-nil}
 use lib.ListN.{length, getD, drop}
-use borrow.Author.Tests.{ne-eqb}
 use Rattle.standard.specs.declared.Context.{Context}
 use Rattle.standard.specs.declared.characters.CharRead.the-variants.{Char}
 use Rattle.standard.specs.Notation.{if_then_else_, next}
@@ -15,8 +11,9 @@ use Rattle.standard.specs.Utf8.{octets, encode, readChar}
 use Rattle.standard.specs.Errors.{listed}
 use Rattle.standard.specs.Classes.{characterCode}
 use Rattle.standard.specs.Names.{Name}
-use Rattle.standard.specs.Pieces.{piece, character, ampersand, encodes, reference, pieceAt}
+use Rattle.standard.specs.Pieces.{piece, character, ampersand, encodes, pieceAt}
 use Rattle.standard.proofs.Back.{read-back}
+use Rattle.standard.proofs.FrontPiece.{first-newline}
 use Rattle.decoder.specs.Pieces.{pieceOf, oneOf}
 
 -- A piece of one character.
@@ -38,25 +35,8 @@ pub character-read : (s : List ℕ) {value len error : ℕ} → readChar s ≡ C
     → pieceOf (oneOf len value error 0) ≡ character (readChar s) s
 character-read s {value} {len} {error} read e = one-code len value error ∙ rw (read, e, read-back s value len read .0)
 
--- The piece at the front of s goes by the first byte.
-by-first : (names : List Name) (context : Context) (s : List ℕ) → 0 < length s
-    → pieceAt names context s ≡ (if eqb (getD s 0 0) (code "\r") then piece (if next (code "\n") (drop 1 s) then 2 else 1) (code "\n" ∷ []) []
-    else if eqb (getD s 0 0) (code "&") then reference names context (drop 1 s)
-    else character (readChar s) s)
-unfolding pieceAt
-by-first names context [] there = absurd (omega arith)
-by-first names context (c ∷ s) there = refl
-
 module _ (names : List Name) (context : Context) (s : List ℕ) (there : 0 < length s) where
   -- A CR is a newline.
   pub front-newline : getD s 0 0 ≡ code "\r" → pieceOf (oneOf (if next 10 (drop 1 s) then 2 else 1) 10 0 0) ≡ pieceAt names context s
   unfolding encode octets
-  front-newline e = rw (by-first names context s there, e) (one-code _ 10 0)
-
-  -- An `&` may be a reference.
-  pub front-reference : getD s 0 0 ≡ code "&" → reference names context (drop 1 s) ≡ pieceAt names context s
-  front-reference e = rw (by-first names context s there, e)
-
-  -- Any other byte is of a character.
-  pub front-character : getD s 0 0 ≢ code "\r" → getD s 0 0 ≢ code "&" → character (readChar s) s ≡ pieceAt names context s
-  front-character p q = rw (by-first names context s there, ne-eqb _ _ p, ne-eqb _ _ q)
+  front-newline e = one-code _ 10 0 ∙ sym (first-newline names context s there e)

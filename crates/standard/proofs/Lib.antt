@@ -24,3 +24,6 @@ pub mod Longest
 pub mod PieceSize
 pub mod Bounds
 pub mod Ascii
+pub mod References
+pub mod Looking
+pub mod FrontPiece

@@ -1,6 +1,6 @@
 use native.Mathlib.Omega.{arith}
 use borrow.Author.Needs.{needs}
-use Rattle.decoder.proofs.NameLaws.{found-there}
+use Rattle.standard.proofs.FrontPiece.{found-there}
 use Rattle.decoder.proofs.pieces.named.Statement.{statement}
 use Rattle.decoder.proofs.pieces.named.Tie as tie
 

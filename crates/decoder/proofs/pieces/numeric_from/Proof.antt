@@ -2,7 +2,8 @@ use mathlib.Core.Path.{sym, _∙_, ap}
 use native.Mathlib.Omega.{arith}
 use borrow.Author.Needs.{needs}
 use Rattle.decoder.specs.Pieces.{pieceOf}
-use Rattle.decoder.proofs.NumberLaws.{digits-there, digits-absent, digits-closed, digits-open}
+use Rattle.standard.proofs.FrontPiece.{digits-there}
+use Rattle.decoder.proofs.NumberLaws.{digits-absent, digits-closed, digits-open}
 use Rattle.decoder.proofs.pieces.numeric_from.Statement.{statement}
 use Rattle.decoder.proofs.pieces.numeric_from.Tie as tie
 

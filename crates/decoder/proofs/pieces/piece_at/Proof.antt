@@ -1,9 +1,10 @@
-use mathlib.Core.Path.{_∙_, ap}
+use mathlib.Core.Path.{sym, _∙_, ap}
 use native.Mathlib.Omega.{arith}
 use borrow.Author.Needs.{needs}
 use Rattle.decoder.specs.Pieces.{pieceOf}
 use Rattle.standard.proofs.Skips.{rest-from}
-use Rattle.decoder.proofs.PieceLaws.{front-newline, front-reference, front-character}
+use Rattle.standard.proofs.FrontPiece.{first-reference, first-character}
+use Rattle.decoder.proofs.PieceLaws.{front-newline}
 use Rattle.decoder.proofs.pieces.piece_at.Statement.{statement}
 use Rattle.decoder.proofs.pieces.piece_at.Tie as tie
 
@@ -42,13 +43,13 @@ reference-requires c κs = search needs
 returns-2 : tie.Need-returns-2
 returns-2 c =
     let s = c .before .before .before .before .before .before .before .args .rest .now in
-    rw (rest-from s 1) at (c .reference .ensures) ∙ front-reference _ _ s (omega arith) (c .before .before .if2 .taken)
+    rw (rest-from s 1) at (c .reference .ensures) ∙ sym (first-reference _ _ s (omega arith) (c .before .before .if2 .taken))
 
 character-requires : tie.Need-character-requires
 character-requires c κs = search needs
 
 returns-3 : tie.Need-returns-3
-returns-3 c = c .character .ensures ∙ front-character _ _ _ (omega arith) (c .before .before .if1 .left) (c .before .if2 .left)
+returns-3 c = c .character .ensures ∙ sym (first-character _ _ _ (omega arith) (c .before .before .if1 .left) (c .before .if2 .left))
 
 pub piece-at-spec : {M : Type 1} → statement M
 piece-at-spec =

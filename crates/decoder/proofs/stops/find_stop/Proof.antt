@@ -3,14 +3,15 @@ use Prim.Native.Nat.{_-_}
 use mathlib.Core.Path.{sym, ap}
 use native.Mathlib.Omega.{arith}
 use lib.ListN.{length}
-use Rattle.standard.specs.Reading.{Stop}
-use Rattle.decoder.proofs.Stopping.{Looking, looking-start, looking-run, looking-end, turn-stops, turn-on, turn-passes}
+use Rattle.standard.specs.Reading.{callsFor, Stop}
+use Rattle.standard.proofs.Looking.{Looking, looking-start, looking-end}
+use Rattle.decoder.proofs.Stopping.{looking-run, turn-stops, turn-on, turn-passes}
 use borrow.Author.Needs.{needs}
 use Rattle.decoder.proofs.stops.find_stop.Statement.{statement}
 use Rattle.decoder.proofs.stops.find_stop.Tie as tie
 
 abbrev Inv-loop : tie.InvT-loop
-Inv-loop context s at₀ at = Looking context s at
+Inv-loop context s at₀ at = Looking (callsFor context) s at
 
 abbrev μ-loop : tie.MeasureT-loop
 μ-loop context s at₀ at = length s - at
@@ -22,10 +23,10 @@ ordinary-run-requires : tie.Need-ordinary-run-requires Inv-loop μ-loop
 ordinary-run-requires c κs = c .before .loop .inv .there
 
 sub-read-char : tie.Need-sub-read-char Inv-loop μ-loop
-sub-read-char c = let k = c .ordinary-run .ensures in omega (arith, looking-run (c .before .before .loop .inv) .there)
+sub-read-char c = let k = c .ordinary-run .ensures in omega (arith, looking-run (c .before .before .before .before .args .context) (c .before .before .loop .inv) .there)
 
 part-read-char-start : tie.Need-part-read-char-start Inv-loop μ-loop
-part-read-char-start c = let k = c .ordinary-run .ensures in omega (arith, looking-run (c .before .before .loop .inv) .there)
+part-read-char-start c = let k = c .ordinary-run .ensures in omega (arith, looking-run (c .before .before .before .before .args .context) (c .before .before .loop .inv) .there)
 
 part-read-char-end : tie.Need-part-read-char-end Inv-loop μ-loop
 part-read-char-end c = search needs
@@ -39,7 +40,7 @@ answer-to-requires c κs = search needs
 returns : tie.Need-returns Inv-loop μ-loop
 returns c =
     let t = c .before .before .before .before in
-    turn-stops (t .before .before .loop .inv) (t .ordinary-run .ensures) (c .before .before .read-char .ensures)
+    turn-stops (c .before .before .before .before .before .before .before .before .args .context) (t .before .before .loop .inv) (t .ordinary-run .ensures) (c .before .before .read-char .ensures)
     (c .before .answer-to .ensures) (c .if1 .taken)
 
 size-of-requires : tie.Need-size-of-requires Inv-loop μ-loop
@@ -49,7 +50,7 @@ add-at : tie.Need-add-at Inv-loop μ-loop
 add-at c =
     let t = c .before .before .before .before .before in
     let l = t .before .before .loop .inv in
-    let turn = turn-on l (t .ordinary-run .ensures) (c .before .before .before .read-char .ensures)
+    let turn = turn-on (c .before .before .before .before .before .before .before .before .before .args .context) l (t .ordinary-run .ensures) (c .before .before .before .read-char .ensures)
     (c .before .before .answer-to .ensures) (c .before .if1 .left) (c .size-of .ensures) in
     omega (arith, turn .there)
 
@@ -57,12 +58,12 @@ loop-less : tie.Need-loop-less Inv-loop μ-loop
 loop-less c =
     let t = c .before .before .before .before .before in
     let l = t .before .before .loop .inv in
-    let turn = turn-passes l (t .ordinary-run .ensures) (c .before .before .before .read-char .ensures)
+    let turn = turn-passes (c .before .before .before .before .before .before .before .before .before .args .context) l (t .ordinary-run .ensures) (c .before .before .before .read-char .ensures)
     (c .before .before .answer-to .ensures) (c .before .if1 .left) (c .size-of .ensures) in
     omega (
       arith,
       turn (t .before .loop-test .taken),
-      turn-on l (t .ordinary-run .ensures) (c .before .before .before .read-char .ensures)
+      turn-on (c .before .before .before .before .before .before .before .before .before .args .context) l (t .ordinary-run .ensures) (c .before .before .before .read-char .ensures)
           (c .before .before .answer-to .ensures) (c .before .if1 .left) (c .size-of .ensures) .there,
     )
 
@@ -70,7 +71,7 @@ loop-again : tie.Need-loop-again Inv-loop μ-loop
 loop-again c =
     let t = c .before .before .before .before .before in
     let l = t .before .before .loop .inv in
-    let turn = turn-on l (t .ordinary-run .ensures) (c .before .before .before .read-char .ensures)
+    let turn = turn-on (c .before .before .before .before .before .before .before .before .before .args .context) l (t .ordinary-run .ensures) (c .before .before .before .read-char .ensures)
     (c .before .before .answer-to .ensures) (c .before .if1 .left) (c .size-of .ensures) in
     turn
 

@@ -10,7 +10,7 @@ use Rattle.standard.specs.Pieces.{namedBy}
 use Rattle.decoder.specs.Pieces.{pieceOf}
 use Rattle.decoder.specs.Turns.{asciiOf, nameOf}
 use Rattle.decoder.proofs.Tidy.{settled}
-use Rattle.decoder.proofs.NameLaws.{found-there}
+use Rattle.standard.proofs.FrontPiece.{found-there}
 use Rattle.decoder.proofs.TurnLaws.{ascii-letter}
 use Rattle.decoder.proofs.NameTurns.{found-read, settle-found, settle-goes, settle-ends}
 use Rattle.decoder.proofs.turns.settle.Statement.{statement}

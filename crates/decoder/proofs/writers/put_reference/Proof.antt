@@ -4,8 +4,8 @@ use lib.ListN.{length, getD}
 use borrow.Author.Needs.{needs}
 use Rattle.standard.specs.Pieces.{encodes}
 use Rattle.standard.proofs.Puts.{put-none, put-join, put-length}
+use Rattle.standard.proofs.References.{encodes-one, encodes-both}
 use Rattle.standard.proofs.RoundTrip.{encode-short}
-use Rattle.decoder.proofs.Contents.{encodes-one, encodes-both}
 use Rattle.decoder.proofs.writers.put_reference.Statement.{statement}
 use Rattle.decoder.proofs.writers.put_reference.Tie as tie
 

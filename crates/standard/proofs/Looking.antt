@@ -1,0 +1,63 @@
+-- Where a source stops, found character by character.
+use Prim.Native.Nat.{ℕ, _+_, _≤_, _<_}
+use mathlib.Core.Path.{_≡_, refl, _∙_, ap}
+use mathlib.Core.List.{List}
+use native.Mathlib.Omega.{arith}
+use lib.ListN.{length, drop, length-drop, drop-of-length-le}
+use lib.Seq.{drop-drop}
+use borrow.Author.Tests.{eq-eqb, ne-eqb}
+use Rattle.standard.specs.declared.characters.CharRead.{CharRead}
+use Rattle.standard.specs.declared.characters.CharRead.the-variants.{Char, Incomplete, Illformed, End}
+use Rattle.standard.specs.Utf8.{readChar}
+use Rattle.standard.specs.Answers.{done}
+use Rattle.standard.specs.Reading.{answerTo, sizeOf, Stop, stops, stopFrom}
+use Rattle.standard.proofs.Stops.{stop-read}
+use Rattle.standard.proofs.Utf8.{read-length, incomplete-length, illformed-length, end-length}
+
+-- What is read has no more bytes than there are.
+size-there : (s : List ℕ) → sizeOf (readChar s) ≤ length s
+size-there s = go (readChar s) refl
+  where
+    go : (r : CharRead) → readChar s ≡ r → sizeOf r ≤ length s
+    go (Char c n) e = read-length s c n e .2
+    go (Incomplete n) e = omega (arith, incomplete-length s n e)
+    go (Illformed n) e = omega (arith, illformed-length s n e)
+    go End e = omega arith
+
+-- A character that calls for nothing has a byte.
+pub size-some : (calls : ℕ → ℕ) (s : List ℕ) → 0 < length s → answerTo calls (readChar s) ≡ done → 0 < sizeOf (readChar s)
+size-some calls s h e = go (readChar s) refl e
+  where
+    go : (r : CharRead) → readChar s ≡ r → answerTo calls r ≡ done → 0 < sizeOf r
+    go (Char c n) f g = omega (arith, read-length s c n f)
+    go (Incomplete n) f g = absurd (omega arith)
+    go (Illformed n) f g = absurd (omega arith)
+    go End f g = absurd (omega (arith, end-length s f))
+
+-- The source stops where what is left from at on does.
+pub record Looking (calls : ℕ → ℕ) (s : List ℕ) (at : ℕ) : Type 0 where
+  pub there : at ≤ length s
+  pub same : stopFrom calls 0 0 s ≡ stopFrom calls 0 at (drop at s)
+
+pub looking-start : {calls : ℕ → ℕ} {s : List ℕ} → Looking calls s 0
+looking-start = record { there = omega arith; same = refl }
+
+module _ {calls : ℕ → ℕ} {s : List ℕ} {at : ℕ} (l : Looking calls s at) where
+  -- Where the next character calls for an answer, that is the source's.
+  pub looking-stops : (answerTo calls (readChar (drop at s)) ≡ done → ⊥)
+      → stopFrom calls 0 0 s ≡ stops (answerTo calls (readChar (drop at s))) at
+  looking-stops asks = l .same ∙ stop-read calls at (drop at s) ∙ rw (ne-eqb (answerTo calls (readChar (drop at s))) done asks)
+
+  -- Where it calls for none, the source stops where what is left after it does.
+  pub looking-on : answerTo calls (readChar (drop at s)) ≡ done → Looking calls s (at + sizeOf (readChar (drop at s)))
+  looking-on goes = record {
+    there = omega (arith, l .there, size-there (drop at s), length-drop at s);
+    same =
+        l .same ∙ stop-read calls at (drop at s) ∙ rw (eq-eqb (answerTo calls (readChar (drop at s))) done goes)
+        (ap (stopFrom calls 0 (at + sizeOf (readChar (drop at s)))) (drop-drop (sizeOf (readChar (drop at s))) at s));
+  }
+
+  -- Where nothing is left, the source is done.
+  pub looking-end : length s ≤ at → stopFrom calls 0 0 s ≡ stops done at
+  unfolding stopFrom
+  looking-end e = l .same ∙ rw (drop-of-length-le s e)
