@@ -12,3 +12,8 @@ pub mod Held
 pub mod Cutting
 pub mod WalkStops
 pub mod StreamAnswers
+pub mod RightRows
+pub mod Reaching
+pub mod Judging
+pub mod CheckAnswers
+pub mod Transcript

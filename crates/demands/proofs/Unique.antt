@@ -16,6 +16,10 @@ use Rattle.decoder.proofs.stream.Stream.end.Kinds as end-kinds
 use Rattle.decoder.proofs.stream.Stream.end.Reads as end-reads
 use Rattle.escaper.proofs.escape.Kinds as escape-kinds
 use Rattle.escaper.proofs.escape.Reads as escape-reads
+use Rattle.checker.proofs.check.Kinds as check-kinds
+use Rattle.checker.proofs.check.Reads as check-reads
+use Rattle.checker.proofs.check_bytes.Kinds as check-bytes-kinds
+use Rattle.checker.proofs.check_bytes.Reads as check-bytes-reads
 use Rattle.rooms.proofs.copy.Kinds as copy-kinds
 use Rattle.rooms.proofs.copy.Reads as copy-reads
 use Rattle.standard.proofs.characters.read_char.Kinds as read-char-kinds
@@ -50,6 +54,12 @@ builtin-names κs a x y e f p q = only p q
 
 pub new-stream : Fixes 0 new-kinds.ps new-kinds.r new-reads.Post
 new-stream κs a x y e f p q = only p q
+
+pub check : Fixes 4 check-kinds.ps check-kinds.r check-reads.Post
+check κs a x y e f p q = only p q
+
+pub check-bytes : Fixes 4 check-bytes-kinds.ps check-bytes-kinds.r check-bytes-reads.Post
+check-bytes κs a x y e f p q = only p q
 
 -- An `ensures` of a function with lent buffers leaves one result and, of each buffer, one content: lent picks them out of the parameters at exit.
 abbrev pub FixesLent : (n : ℕ) (ps : List (PK n)) (r : RK n) (B : Type 0) → ((κs : Lfts n) → AtExit (endedOf n ps r) κs → B) → Out n ps r → Type 0

@@ -1,0 +1,101 @@
+-- Meeting the pieces of a row, one after the other.
+use Prim.Native.Nat.{ℕ, zero, suc, _+_, _-_, _≤_, _<_}
+use mathlib.Core.Path.{_≡_, refl, sym, _∙_, ap, subst}
+use mathlib.Core.List.{List, [], _∷_}
+use native.Mathlib.Omega.{arith}
+use lib.ListN.{length, drop, length-drop}
+use lib.Seq.{drop-drop}
+use Rattle.standard.specs.declared.Context.{Context}
+use Rattle.standard.specs.Errors.{numbers, placed}
+use Rattle.standard.specs.Names.{Name}
+use Rattle.standard.specs.Pieces as standard
+use Rattle.standard.specs.Reading.{pieces, joined}
+use Rattle.standard.proofs.Bounds.{pieces-unfold}
+use Rattle.standard.proofs.PieceSize.{piece-size}
+use Rattle.standard.proofs.Puts.{numbers-append}
+use Rattle.checker.specs.declared.meeting.Met.{Met}
+use Rattle.checker.specs.declared.rows.Joint.{Joint}
+use Rattle.checker.specs.declared.pieces.Piece.{Piece}
+use Rattle.checker.specs.Pieces.{pieceOf}
+use Rattle.checker.specs.Transcript.{total, reached}
+use Rattle.checker.specs.Meeting.{Meets, Joins}
+use Rattle.checker.proofs.Meetings.{meets-none, meets-join}
+
+-- The pieces of a row: the place after them, and what was met of their text and errors.
+abbrev joint : ℕ → Met → Met → Joint
+joint at text errors = record { at = at; text = text; errors = errors }
+
+-- No bytes reach into no pieces.
+reached-none : (ps : List standard.Piece) → reached 0 ps ≡ []
+unfolding reached
+reached-none [] = refl
+reached-none (p ∷ ps) = refl
+
+module _ {text errors : List ℕ} where
+  -- Where the row is over, all of it was met.
+  joins-none : (ps : List standard.Piece) (at : ℕ) {t e : Met} → t .at ≤ length text → e .at ≤ length errors
+      → Joins ps at 0 text t errors e (joint at t e)
+  unfolding total joined numbers
+  joins-none ps at t-there e-there = record {
+    at-is = rw (reached-none ps) (omega arith);
+    text-met = rw (reached-none ps) (meets-none t-there);
+    errors-met = rw (reached-none ps) (meets-none e-there);
+  }
+
+  -- A piece, and then those after it.
+  joins-one : (p : standard.Piece) (ps : List standard.Piece) (at n : ℕ) {t t′ e e′ : Met} {r : Joint} → 0 < n → Meets t (p .text) text t′
+      → Meets e (numbers (placed at (p .codes))) errors e′ → Joins ps (at + p .size) (n - p .size) text t′ errors e′ r
+      → Joins (p ∷ ps) at n text t errors e r
+  unfolding reached total joined
+  joins-one p ps at zero h texts codes rest = absurd (omega arith)
+  joins-one p ps at (suc n) h texts codes rest = record {
+    at-is = omega (arith, rest .at-is);
+    text-met = meets-join texts (rest .text-met);
+    errors-met =
+        rw (numbers-append (placed at (p .codes)) (joined (at + p .size) (reached (suc n - p .size) ps) .errors))
+        (meets-join codes (rest .errors-met));
+  }
+
+-- From at to end the pieces of a row were not met yet; where they are, all of them are.
+pub record Walking (names : List Name) (context : Context) (s : List ℕ) (end : ℕ) (text errors : List ℕ) (whole : Joint → Type 0) (at : ℕ)
+    (t e : Met) : Type 0 where
+  pub there : at ≤ length s
+  pub text-there : t .at ≤ length text
+  pub errors-there : e .at ≤ length errors
+  pub rest : (r : Joint) → Joins (pieces names context (drop at s)) at (end - at) text t errors e r → whole r
+
+module _ {names : List Name} {context : Context} {s : List ℕ} {end : ℕ} {text errors : List ℕ} {whole : Joint → Type 0} {at : ℕ} {t e : Met}
+    (w : Walking names context s end text errors whole at t e) where
+  -- All of them were.
+  pub walked : end ≤ at → whole (joint at t e)
+  walked h =
+      let none : end - at ≡ 0 = omega arith in
+      w .rest (joint at t e) (rw none (joins-none (pieces names context (drop at s)) at (w .text-there) (w .errors-there)))
+
+  module _ (inside : at < end) (byte : at < length s) (p : Piece) (is : pieceOf p ≡ standard.pieceAt names context (drop at s)) where
+    some-left : 0 < length (drop at s)
+    some-left = simp length-drop (omega arith)
+
+    -- The next piece has a byte, and is there.
+    pub piece-there : (0 < p .size) × (at + p .size ≤ length s)
+    piece-there =
+        let size-is : p .size ≡ standard.pieceAt names context (drop at s) .size = ap (λ (q : standard.Piece). q .size) is in
+        let k = piece-size names context (drop at s) some-left in
+        (omega arith, omega (arith, length-drop at s))
+
+    split : pieces names context (drop at s) ≡ pieceOf p ∷ pieces names context (drop (at + p .size) s)
+    split = pieces-unfold names context (drop at s) some-left ∙ rw (← is, drop-drop (p .size) at s)
+
+    -- It was met too.
+    pub walk-on : {t′ e′ : Met} → Meets t (pieceOf p .text) text t′ → Meets e (numbers (placed at (pieceOf p .codes))) errors e′
+        → Walking names context s end text errors whole (at + p .size) t′ e′
+    walk-on {t′} {e′} texts codes = record {
+      there = piece-there .1;
+      text-there = texts .there;
+      errors-there = codes .there;
+      rest = λ r j. w .rest r (rw split (joins-one (pieceOf p) (pieces names context (drop (at + p .size) s)) at (end - at) (omega arith) texts codes
+          (rw less j)));
+    }
+      where
+        less : end - at - p .size ≡ end - (at + p .size)
+        less = omega arith

@@ -1,0 +1,82 @@
+use mathlib.Core.Path.{_∙_}
+use native.Mathlib.Omega.{arith}
+use lib.ListN.{length-take}
+use borrow.Author.Needs.{needs}
+use borrow.Author.Tests.{not-true, not-false}
+use Rattle.standard.proofs.Stops.{stop-place}
+use Rattle.checker.specs.Meeting.{lent}
+use Rattle.checker.proofs.CheckLaws.{check-long, check-rows, check-errors, check-fault, check-judged}
+use Rattle.checker.proofs.checking.check_numbers.Statement.{statement}
+use Rattle.checker.proofs.checking.check_numbers.Tie as tie
+
+refused-requires : tie.Need-refused-requires
+refused-requires c κs = search needs
+
+returns : tie.Need-returns
+returns c = let a = c .before .before .before .before .before .before .before .before .args in c .refused .ensures ∙ check-long (a .context) (a .source .now) (lent (a .rows .now) (a .row-bytes .now)) (a .text .now) (lent (a .words .now) (a .bytes .now)) (c .before .if1 .taken)
+
+count-requires : tie.Need-count-requires
+count-requires c κs = search needs
+
+refused-requires-2 : tie.Need-refused-requires-2
+refused-requires-2 c κs = search needs
+
+returns-2 : tie.Need-returns-2
+returns-2 c =
+    let a = c .before .before .before .before .before .before .before .before .before .before .args in
+    c .refused2 .ensures ∙ check-rows (a .context) (a .source .now) (lent (a .rows .now) (a .row-bytes .now)) (a .text .now) (lent (a .words .now) (a .bytes .now)) (omega arith) (rw (c .before .before .count .ensures) at (c .before .if2 .taken))
+
+count-requires-2 : tie.Need-count-requires-2
+count-requires-2 c κs = search needs
+
+refused-requires-3 : tie.Need-refused-requires-3
+refused-requires-3 c κs = search needs
+
+returns-3 : tie.Need-returns-3
+returns-3 c =
+    let a = c .before .before .before .before .before .before .before .before .before .before .before .before .args in
+    c .refused3 .ensures
+    ∙ check-errors (a .context) (a .source .now) (lent (a .rows .now) (a .row-bytes .now)) (a .text .now) (lent (a .words .now) (a .bytes .now)) (omega arith) (rw (c .before .before .before .before .count .ensures) at (c .before .before .before .if2 .left)) (rw (c .before .before .count2 .ensures) at (c .before .if3 .taken))
+
+find-fault-requires : tie.Need-find-fault-requires
+find-fault-requires c κs = search needs
+
+cast-refused : tie.Need-cast-refused
+cast-refused c =
+    let a = c .before .before .before .before .before .before .before .before .before .before .before .before .before .args in omega (arith, c .before .find-fault .ensures .1, stop-place (a .context) (a .source .now))
+
+refused-requires-4 : tie.Need-refused-requires-4
+refused-requires-4 c κs = search needs
+
+returns-4 : tie.Need-returns-4
+returns-4 c =
+    let a = c .before .before .before .before .before .before .before .before .before .before .before .before .before .before .args in
+    c .refused4 .ensures
+    ∙ check-fault (a .context) (a .source .now) (lent (a .rows .now) (a .row-bytes .now)) (a .text .now) (lent (a .words .now) (a .bytes .now)) (omega arith) (rw (c .before .before .before .before .before .before .count .ensures) at (c .before .before .before .before .before .if2 .left)) (rw (c .before .before .before .before .count2 .ensures) at (c .before .before .before .if3 .left))
+    (c .before .before .find-fault .ensures .0) (c .before .before .find-fault .ensures .1) (not-true _ (c .before .if4 .taken))
+
+builtin-names-requires : tie.Need-builtin-names-requires
+builtin-names-requires c κs = search needs
+
+slice-aggregate-judge : tie.Need-slice-aggregate-judge
+slice-aggregate-judge c = search needs
+
+slice-aggregate-judge-2 : tie.Need-slice-aggregate-judge-2
+slice-aggregate-judge-2 c =
+    let a = c .before .before .before .before .before .before .before .before .before .before .before .before .before .before .before .before .args in
+    let k = stop-place (a .context) (a .source .now) in simp length-take (omega (arith, c .before .before .before .before .find-fault .ensures .1))
+
+judge-requires : tie.Need-judge-requires
+judge-requires c κs =
+    let a = c .before .before .before .before .before .before .before .before .before .before .before .before .before .before .before .before .args in
+    let k = stop-place (a .context) (a .source .now) in
+    (simp length-take (omega (arith, c .before .before .before .before .find-fault .ensures .1)), rw (c .before .before .before .before .before .before .before .before .count .ensures) at (c .before .before .before .before .before .before .before .if2 .left))
+
+returns-5 : tie.Need-returns-5
+returns-5 c =
+    let a = c .before .before .before .before .before .before .before .before .before .before .before .before .before .before .before .before .before .args in
+    check-judged (a .context) (a .source .now) (lent (a .rows .now) (a .row-bytes .now)) (a .text .now) (lent (a .words .now) (a .bytes .now)) (omega arith) (rw (c .before .before .before .before .before .before .before .before .before .count .ensures) at (c .before .before .before .before .before .before .before .before .if2 .left)) (rw (c .before .before .before .before .before .before .before .count2 .ensures) at (c .before .before .before .before .before .before .if3 .left))
+    (c .before .before .before .before .before .find-fault .ensures .0) (c .before .before .before .before .before .find-fault .ensures .1) (not-false _ (c .before .before .before .before .if4 .left)) (c .before .before .before .builtin-names .ensures) (c .judge .ensures)
+
+pub check-numbers-spec : {M : Type 1} → statement M
+check-numbers-spec = tie.close (tie.spec refused-requires returns count-requires refused-requires-2 returns-2 count-requires-2 refused-requires-3 returns-3 find-fault-requires cast-refused refused-requires-4 returns-4 builtin-names-requires slice-aggregate-judge slice-aggregate-judge-2 judge-requires returns-5)

@@ -1,0 +1,55 @@
+-- Meeting what a transcript should have next, and the numbers that are lent to the code.
+use Prim.Native.Nat.{ℕ, _+_, _≤_, _<_}
+use mathlib.Core.Path.{_≡_}
+use mathlib.Core.List.{List}
+use mathlib.Core.Bool.{Bool, true, _&&_}
+use lib.Dec.{eqb}
+use lib.ListN.{length, drop}
+use Rattle.standard.specs.declared.Context.{Context}
+use Rattle.standard.specs.Notation.{if_then_else_}
+use Rattle.standard.specs.Errors.{numbers}
+use Rattle.standard.specs.Names.{Name, stands}
+use Rattle.standard.specs.Pieces.{Piece}
+use Rattle.standard.specs.Reading.{pieces, Reading, joined}
+use Rattle.checker.specs.declared.meeting.Met.{Met}
+use Rattle.checker.specs.declared.rows.Joint.{Joint}
+use Rattle.checker.specs.declared.rows.Judged.{Judged}
+use Rattle.checker.specs.declared.rows.Verdict as code
+use Rattle.checker.specs.Transcript.{Row, Left, left, total, reached, wrong, right, after, Verdict, words}
+
+-- The numbers that are lent: words, or bytes where there are no words.
+abbrev pub lent : List ℕ → List ℕ → List ℕ
+lent numbers bytes = if eqb (length numbers) 0 then words bytes else numbers
+
+-- After met, values come next in l: r says whether they do, and the place after them where they do.
+pub record Meets (met : Met) (values l : List ℕ) (r : Met) : Type 0 where
+  pub right-is : r .right ≡ met .right && stands values (drop (met .at) l)
+  pub at-is : r .right ≡ true → r .at ≡ met .at + length values
+  pub there : r .at ≤ length l
+
+-- A place before which all was right.
+abbrev pub so-far : ℕ → Met
+so-far at = record { right = true; at = at }
+
+-- After what was met, the text and the errors of the pieces that n source bytes reach into were met.
+pub record Joins (ps : List Piece) (at n : ℕ) (text : List ℕ) (t : Met) (errors : List ℕ) (e : Met) (r : Joint) : Type 0 where
+  pub at-is : r .at ≡ at + total (reached n ps)
+  pub text-met : Meets t (joined at (reached n ps) .text) text (r .text)
+  pub errors-met : Meets e (numbers (joined at (reached n ps) .errors)) errors (r .errors)
+
+-- What is left of a covered source from at on, of text from t on and of errors from e on.
+abbrev pub leftAt : List Name → Context → (source : List ℕ) (at : ℕ) (text : List ℕ) (t : ℕ) (errors : List ℕ) (e : ℕ) → Left
+leftAt names context source at text t errors e = left at (pieces names context (drop at source)) (drop t text) (drop e errors)
+
+-- A row was judged from the places at, t and e on; where it is right, the places after it are known.
+pub record Judges (names : List Name) (context : Context) (s : List ℕ) (at : ℕ) (text : List ℕ) (t : ℕ) (errors : List ℕ) (e : ℕ) (w : Row)
+    (r : Judged) : Type 0 where
+  pub reason-is : r .reason ≡ wrong (leftAt names context s at text t errors e) w
+  pub leaves : r .reason ≡ right
+      → after (leftAt names context s at text t errors e) w ≡ leftAt names context s (r .at) text (r .text) errors (r .errors)
+  pub there : r .reason ≡ right → (at < r .at) × (r .at ≤ length s) × (r .text ≤ length text) × (r .errors ≤ length errors)
+
+-- A verdict of the code is the definition's.
+pub record Verdicts (v : Verdict) (r : code.Verdict) : Type 0 where
+  pub reason-is : r .reason ≡ v .reason
+  pub row-is : r .row ≡ v .at-row

@@ -1,0 +1,12 @@
+// Checking: a transcript of a source, judged without the decoder.
+mod checking;
+mod classes;
+mod faults;
+mod meeting;
+mod pieces;
+mod references;
+mod rows;
+
+pub use checking::Checked;
+pub use checking::check;
+pub use checking::check_bytes;

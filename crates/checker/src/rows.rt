@@ -1,0 +1,192 @@
+// The rows of a transcript, judged one after the other.
+ghost use mathlib.Core.Path.{_≡_};
+ghost use Prim.Native.Nat.{_≤_, _<_, _+_, _-_, _%_};
+ghost use lib.ListN.{length, drop};
+ghost use Rattle.standard.specs.Names.{records};
+ghost use Rattle.standard.specs.Reading.{pieces};
+ghost use Rattle.checker.specs.Transcript.{row, verdictOn};
+ghost use Rattle.checker.specs.Meeting.{lent, so-far, Joins, Judges, Verdicts};
+use crate::meeting::Met;
+use crate::meeting::count;
+use crate::meeting::meet_codes;
+use crate::meeting::meet_text;
+use crate::meeting::number_at;
+use crate::pieces::piece_at;
+use standard::Context;
+
+// The pieces of a row: the place after them, and their text and errors as they were met.
+pub(crate) struct Joint {
+    pub at: usize,
+    pub text: Met,
+    pub errors: Met,
+}
+
+// The pieces from `from` on that reach up to end or past it.
+fn meet_pieces(
+    table: &[u8],
+    context: Context,
+    s: &[u8],
+    from: usize,
+    end: usize,
+    text: &[u8],
+    t: usize,
+    words: &[u32],
+    bytes: &[u8],
+    e: usize,
+) -> Joint
+    requires { ⌜ (from ≤ end) × (end ≤ length (now s)) × (length (now s) ≤ 65536) × (t ≤ length (now text))
+        × (e ≤ length (lent (now words) (now bytes))) ⌝ }
+    ensures { λ r. ⌜ Joins (pieces (records (now (table .entry))) context (drop from (now (s .entry)))) from (end - from)
+        (now (text .entry)) (so-far t) (lent (now (words .entry)) (now (bytes .entry))) (so-far e) r ⌝ }
+{
+    let mut at = from;
+    let mut met_text = Met { right: true, at: t };
+    let mut met_errors = Met { right: true, at: e };
+    while at < end {
+        let piece = piece_at(table, context, s, at);
+        let reference = piece.reference;
+        met_text = meet_text(met_text, text, reference);
+        met_errors = meet_codes(
+            met_errors,
+            words,
+            bytes,
+            piece.unclosed,
+            piece.code,
+            at as u32,
+        );
+        at += piece.size;
+    }
+    Joint {
+        at,
+        text: met_text,
+        errors: met_errors,
+    }
+}
+
+// Why a row is wrong, or 0, and then the places after it.
+pub(crate) struct Judged {
+    pub reason: u32,
+    pub at: usize,
+    pub text: usize,
+    pub errors: usize,
+}
+
+// A row that is wrong.
+fn wrong_for(reason: u32) -> Judged
+    ensures { λ r. ⌜ r .reason ≡ reason ⌝ }
+{
+    Judged {
+        reason,
+        at: 0,
+        text: 0,
+        errors: 0,
+    }
+}
+
+// A row of n source bytes, m text bytes and k errors.
+fn judge_row(
+    table: &[u8],
+    context: Context,
+    s: &[u8],
+    at: usize,
+    text: &[u8],
+    t: usize,
+    words: &[u32],
+    bytes: &[u8],
+    e: usize,
+    n: u32,
+    m: u32,
+    k: u32,
+) -> Judged
+    requires { ⌜ (at ≤ length (now s)) × (length (now s) ≤ 65536) × (t ≤ length (now text)) × (e ≤ length (lent (now words) (now bytes))) ⌝ }
+    ensures { λ r. ⌜ Judges (records (now (table .entry))) context (now (s .entry)) at (now (text .entry)) t
+        (lent (now (words .entry)) (now (bytes .entry))) e (row n m k) r ⌝ }
+{
+    let source = n as usize;
+    if source == 0 {
+        return wrong_for(1);
+    }
+    if s.len() - at < source {
+        return wrong_for(1);
+    }
+    let joint = meet_pieces(table, context, s, at, at + source, text, t, words, bytes, e);
+    if joint.at != at + source {
+        return wrong_for(2);
+    }
+    let met_text = joint.text;
+    if !met_text.right {
+        return wrong_for(3);
+    }
+    if met_text.at - t != m as usize {
+        return wrong_for(3);
+    }
+    let met_errors = joint.errors;
+    if !met_errors.right {
+        return wrong_for(4);
+    }
+    if met_errors.at - e != 2 * (k as usize) {
+        return wrong_for(4);
+    }
+    Judged {
+        reason: 0,
+        at: joint.at,
+        text: met_text.at,
+        errors: met_errors.at,
+    }
+}
+
+// A reason, or 0, and a row.
+pub(crate) struct Verdict {
+    pub reason: u32,
+    pub row: u32,
+}
+
+// The verdict on a transcript of the covered source s.
+pub(crate) fn judge(
+    table: &[u8],
+    context: Context,
+    s: &[u8],
+    rows: &[u32],
+    row_bytes: &[u8],
+    text: &[u8],
+    words: &[u32],
+    bytes: &[u8],
+) -> Verdict
+    requires { ⌜ (length (now s) ≤ 65536) × (length (lent (now rows) (now «row_bytes»)) % 3 ≡ 0) ⌝ }
+    ensures { λ r. ⌜ Verdicts (verdictOn (records (now (table .entry))) context (now (s .entry))
+        (lent (now (rows .entry)) (now («row_bytes» .entry))) (now (text .entry)) (lent (now (words .entry)) (now (bytes .entry)))) r ⌝ }
+{
+    let numbers = count(rows, row_bytes);
+    let mut next: usize = 0;
+    let mut row: u32 = 0;
+    let mut at: usize = 0;
+    let mut t: usize = 0;
+    let mut e: usize = 0;
+    while next < numbers {
+        let n = number_at(rows, row_bytes, next);
+        let m = number_at(rows, row_bytes, next + 1);
+        let k = number_at(rows, row_bytes, next + 2);
+        let judged = judge_row(table, context, s, at, text, t, words, bytes, e, n, m, k);
+        if judged.reason != 0 {
+            return Verdict {
+                reason: judged.reason,
+                row,
+            };
+        }
+        at = judged.at;
+        t = judged.text;
+        e = judged.errors;
+        next += 3;
+        row += 1;
+    }
+    if at != s.len() {
+        return Verdict { reason: 5, row };
+    }
+    if t != text.len() {
+        return Verdict { reason: 5, row };
+    }
+    if e != count(words, bytes) {
+        return Verdict { reason: 5, row };
+    }
+    Verdict { reason: 0, row: 0 }
+}

@@ -1,0 +1,195 @@
+-- Demand 1 for transcripts: for each line of the table of answers, when `check` gives it, and what then holds.
+-- c is whatever meets the contract of `check` for a source, rows, text and errors.
+use Prim.Native.Nat.{ℕ, _%_, _≤_, _<_}
+use mathlib.Core.Path.{_≡_, refl, sym, _∙_, ap, subst}
+use mathlib.Core.List.{List}
+use mathlib.Core.Bool.{true, false, not, _||_, _&&_}
+use mathlib.Core.Logic.{_⊎_, inl, inr, ⊎-elim}
+use lib.Dec.{eqb}
+use lib.ListN.{length}
+use borrow.Author.Tests.{lt-ltb, le-ltb, eqb-true, eq-eqb}
+use Rattle.standard.specs.declared.Context.{Context}
+use Rattle.standard.specs.Notation.{if_then_else_}
+use Rattle.standard.specs.Answers.{done, ill-formed, nul, too-long, context-end, not-whole}
+use Rattle.standard.specs.NameList.{builtin}
+use Rattle.standard.specs.Reading.{Stop, stopOf, covered, readable}
+use Rattle.standard.proofs.Choice.{no-way, test?, below?, and-true}
+use Rattle.checker.specs.declared.checking.Checked.{Checked}
+use Rattle.checker.specs.Transcript.{right, Verdict, verdict, verdictOn, checked, checkedOf, words, checkedBytes}
+use Rattle.decoder.proofs.Answering.{OneOf, stops-with}
+use Rattle.demands.proofs.Lines.{Line, line}
+
+-- The answers of the check.
+abbrev pub Answer : ℕ → Type 0
+Answer a = (a ≡ too-long) ⊎ ((a ≡ not-whole) ⊎ ((a ≡ ill-formed) ⊎ ((a ≡ nul) ⊎ (a ≡ done))))
+
+module _ (context : Context) (source rows text errors : List ℕ) where
+  -- The rows are in threes, and the errors in pairs.
+  abbrev pub Whole : Type 0
+  Whole = (length rows % 3 ≡ 0) × (length errors % 2 ≡ 0)
+
+  -- The source is not too long, and rows and errors are whole: the source is read.
+  abbrev pub Looked : Type 0
+  Looked = (length source ≤ 65536) × Whole
+
+  -- Where the source stops.
+  abbrev stop : Stop
+  stop = stopOf context source
+
+  -- The verdict by its definition.
+  abbrev found : Verdict
+  found = verdictOn builtin context (covered context source) rows text errors
+
+  -- What each answer is given for.
+  data When : ℕ → Type 0 where
+    long : 65536 < length source → When too-long
+    part : length source ≤ 65536 → (Whole → ⊥) → When not-whole
+    no-character : Looked → stop .answer ≡ ill-formed → When ill-formed
+    nul-character : Looked → stop .answer ≡ nul → When nul
+    reads : Looked → readable context source ≡ true → When done
+
+  -- Rows and errors are whole where the test says so, and only there.
+  whole-of : eqb (length rows % 3) 0 && eqb (length errors % 2) 0 ≡ true → Whole
+  whole-of t =
+      let w = and-true (eqb (length rows % 3) 0) (eqb (length errors % 2) 0) t in
+      (eqb-true (length rows % 3) 0 (w .0), eqb-true (length errors % 2) 0 (w .1))
+
+  whole-test : Whole → eqb (length rows % 3) 0 && eqb (length errors % 2) 0 ≡ true
+  whole-test w = rw (eq-eqb (length rows % 3) 0 (w .0), eq-eqb (length errors % 2) 0 (w .1))
+
+  -- The whole answer.
+  abbrev all : Checked
+  all = checkedOf builtin context source rows text errors
+
+  -- 3.
+  says-long : 65536 < length source → all ≡ checked too-long (verdict right 0) 0
+  unfolding checkedOf
+  says-long h = rw (lt-ltb 65536 (length source) h)
+
+  -- 10.
+  says-part : length source ≤ 65536 → (Whole → ⊥) → all ≡ checked not-whole (verdict right 0) 0
+  unfolding checkedOf
+  says-part short no-whole =
+      rw (le-ltb 65536 (length source) short)
+      (⊎-elim (λ t. absurd (no-whole (whole-of t))) (λ f. rw f) (test? (eqb (length rows % 3) 0 && eqb (length errors % 2) 0)))
+
+  -- After these the answer is by whether the source is readable.
+  says-looked : Looked
+      → all ≡ (if not (readable context source) then checked (stop .answer) (verdict right 0) (stop .place) else checked done found 0)
+  unfolding checkedOf
+  says-looked h = rw (le-ltb 65536 (length source) (h .0), whole-test (h .1))
+
+  -- 1 and 2.
+  says-stop : (a : ℕ) → eqb a done || eqb a context-end ≡ false → Looked → stop .answer ≡ a → all ≡ checked a (verdict right 0) (stop .place)
+  says-stop a f h e = says-looked h ∙ rw (e, f)
+
+  -- 0.
+  says-found : Looked → readable context source ≡ true → all ≡ checked done found 0
+  says-found h e = says-looked h ∙ rw e
+
+  -- Each answer is given for that.
+  given-for : {a : ℕ} → When a → all .answer ≡ a
+  given-for (long h) = rw (says-long h)
+  given-for (part short no-whole) = rw (says-part short no-whole)
+  given-for (no-character h e) = rw (says-stop ill-formed refl h e)
+  given-for (nul-character h e) = rw (says-stop nul refl h e)
+  given-for (reads h e) = rw (says-found h e)
+
+  -- One of these is so.
+  some-answer : (a : ℕ) × When a
+  some-answer = ⊎-elim (λ h. (too-long, long h)) short (below? 65536 (length source))
+    where
+      stopped : Looked → OneOf (stop .answer) → (a : ℕ) × When a
+      stopped h (inl e) = (done, reads h (rw e))
+      stopped h (inr (inl e)) = (ill-formed, no-character h e)
+      stopped h (inr (inr (inl e))) = (nul, nul-character h e)
+      stopped h (inr (inr (inr e))) = (done, reads h (rw e))
+
+      short : length source ≤ 65536 → (a : ℕ) × When a
+      short h =
+          ⊎-elim (λ t. stopped (h, whole-of t) (stops-with context source)) (λ f. (not-whole, part h (λ w. no-way (sym (whole-test w) ∙ f))))
+          (test? (eqb (length rows % 3) 0 && eqb (length errors % 2) 0))
+
+  -- So an answer is given for nothing else.
+  only-for : (a : ℕ) → all .answer ≡ a → When a
+  only-for a e = let w = some-answer in subst When (sym (given-for (w .1)) ∙ e) (w .1)
+
+  module _ (c : Checked) (is : c ≡ all) where
+    -- A line, by what its answer is given for.
+    by-when : (a : ℕ) (why result : Type 0) → (When a → why) → (why → When a) → (why → c ≡ all → result) → Line (c .answer) a why result
+    by-when a why result only given so =
+        line (all .answer) a why result (ap (λ (x : Checked). x .answer) is) (λ w. given-for (given w)) (λ e. only (only-for a e))
+        (λ e. so (only (only-for a e)) is)
+
+    -- An answer without a verdict.
+    abbrev Refused : (answer place : ℕ) → Type 0
+    Refused answer place = c ≡ checked answer (verdict right 0) place
+
+    pub line-3 : Line (c .answer) too-long (65536 < length source) (Refused too-long 0)
+    line-3 = by-when too-long _ _ only long (λ h e. e ∙ says-long h)
+      where
+        only : When too-long → 65536 < length source
+        only (long h) = h
+
+    pub line-10 : Line (c .answer) not-whole ((length source ≤ 65536) × (Whole → ⊥)) (Refused not-whole 0)
+    line-10 = by-when not-whole _ _ only (λ w. part (w .0) (w .1)) (λ w e. e ∙ says-part (w .0) (w .1))
+      where
+        only : When not-whole → (length source ≤ 65536) × (Whole → ⊥)
+        only (part short no-whole) = (short, no-whole)
+
+    pub line-1 : Line (c .answer) ill-formed (Looked × (stop .answer ≡ ill-formed)) (Refused ill-formed (stop .place))
+    line-1 = by-when ill-formed _ _ only (λ w. no-character (w .0) (w .1)) (λ w e. e ∙ says-stop ill-formed refl (w .0) (w .1))
+      where
+        only : When ill-formed → Looked × (stop .answer ≡ ill-formed)
+        only (no-character h e) = (h, e)
+
+    pub line-2 : Line (c .answer) nul (Looked × (stop .answer ≡ nul)) (Refused nul (stop .place))
+    line-2 = by-when nul _ _ only (λ w. nul-character (w .0) (w .1)) (λ w e. e ∙ says-stop nul refl (w .0) (w .1))
+      where
+        only : When nul → Looked × (stop .answer ≡ nul)
+        only (nul-character h e) = (h, e)
+
+    -- With 0 comes the verdict: Transcript says what it is.
+    pub line-0 : Line (c .answer) done (Looked × (readable context source ≡ true)) (c ≡ checked done found 0)
+    line-0 = by-when done _ _ only (λ w. reads (w .0) (w .1)) (λ w e. e ∙ says-found (w .0) (w .1))
+      where
+        only : When done → Looked × (readable context source ≡ true)
+        only (reads h e) = (h, e)
+
+    -- No other answer is given.
+    pub no-other : Answer (c .answer)
+    no-other = rw is (let w = some-answer in rw (given-for (w .1)) (one (w .1)))
+      where
+        one : {a : ℕ} → When a → Answer a
+        one (long h) = inl refl
+        one (part short no-whole) = inr (inl refl)
+        one (no-character h e) = inr (inr (inl refl))
+        one (nul-character h e) = inr (inr (inr (inl refl)))
+        one (reads h e) = inr (inr (inr (inr refl)))
+
+-- The same for `check_bytes`, whose rows and errors are bytes, four a number: 3; 10 also where these are no whole numbers; else what `check` gives.
+module _ (context : Context) (source rows text errors : List ℕ) (c : Checked) (is : c ≡ checkedBytes builtin context source rows text errors) where
+  -- The bytes of both are whole numbers.
+  abbrev pub Fours : Type 0
+  Fours = (length rows % 4 ≡ 0) × (length errors % 4 ≡ 0)
+
+  pub bytes-3 : 65536 < length source → c ≡ checked too-long (verdict right 0) 0
+  unfolding checkedBytes
+  bytes-3 h = is ∙ rw (lt-ltb 65536 (length source) h)
+
+  pub bytes-10 : length source ≤ 65536 → (Fours → ⊥) → c ≡ checked not-whole (verdict right 0) 0
+  unfolding checkedBytes
+  bytes-10 short odd =
+      is
+      ∙ rw (le-ltb 65536 (length source) short)
+      (⊎-elim (λ t. absurd (odd (fours t))) (λ f. rw f) (test? (eqb (length rows % 4) 0 && eqb (length errors % 4) 0)))
+    where
+      fours : eqb (length rows % 4) 0 && eqb (length errors % 4) 0 ≡ true → Fours
+      fours t =
+          let w = and-true (eqb (length rows % 4) 0) (eqb (length errors % 4) 0) t in
+          (eqb-true (length rows % 4) 0 (w .0), eqb-true (length errors % 4) 0 (w .1))
+
+  pub bytes-as-words : length source ≤ 65536 → Fours → c ≡ checkedOf builtin context source (words rows) text (words errors)
+  unfolding checkedBytes
+  bytes-as-words short whole =
+      is ∙ rw (le-ltb 65536 (length source) short, eq-eqb (length rows % 4) 0 (whole .0), eq-eqb (length errors % 4) 0 (whole .1))
