@@ -168,7 +168,8 @@ module _ (names : List Name) (context : Context) (s : List ℕ) (from : ℕ) {fo
         getD-drop from s (found .len - 1) 0 ∙ ap (λ (i : ℕ). getD s i 0) k
 
     -- It is a `;`.
-    pub name-closed : getD s (from + found .len - 1) 0 ≡ code ";" → pieceOf (foundOf found false) ≡ namedBy context (longest names (drop from s)) (drop from s)
+    pub name-closed : getD s (from + found .len - 1) 0 ≡ code ";"
+        → pieceOf (foundOf found false) ≡ namedBy context (longest names (drop from s)) (drop from s)
     name-closed e = rw (← found-is, by-closed context found (drop from s) some (last-is ∙ e), add-one)
 
     module _ (unclosed : getD s (from + found .len - 1) 0 ≢ code ";") {seen : ℕ} (is : seen ≡ getD s (from + found .len) 256) where
@@ -223,5 +224,6 @@ module _ (names : List Name) (context : Context) (s : List ℕ) (at : ℕ) (ther
         rw (first-reference names context (drop at s) some-left (byte-is ∙ b), drop-drop 1 at s, next-missed (code "#") s (at + 1) refl is e)
 
   -- Any other byte is of a character.
-  pub front-character : getD s at 0 ≢ code "\r" → getD s at 0 ≢ code "&" → character (readChar (drop at s)) (drop at s) ≡ pieceAt names context (drop at s)
+  pub front-character : getD s at 0 ≢ code "\r" → getD s at 0 ≢ code "&"
+      → character (readChar (drop at s)) (drop at s) ≡ pieceAt names context (drop at s)
   front-character p q = sym (first-character names context (drop at s) some-left (λ e. p (sym byte-is ∙ e)) (λ e. q (sym byte-is ∙ e)))

@@ -99,7 +99,8 @@ fn keeps_text(context: Context, c: u32) -> bool
 // What the `&` before `from` is, where no `#` follows it.
 fn named(table: &[u8], context: Context, s: &[u8], from: usize) -> Piece
     requires { ⌜ from ≤ length (now s) ⌝ }
-    ensures { λ r. ⌜ pieceOf r ≡ standard.namedBy context (longest (records (now (table .entry))) (drop from (now (s .entry)))) (drop from (now (s .entry))) ⌝ }
+    ensures { λ r. ⌜ pieceOf r ≡ standard.namedBy context (longest (records (now (table .entry))) (drop from (now (s .entry))))
+        (drop from (now (s .entry))) ⌝ }
 {
     let found = longest_name(table, &s[from..]);
     let len = found.len;

@@ -34,7 +34,8 @@ module _ (context : Context) {s : List ℕ} {at : ℕ} (l : Looking (callsFor co
   }
 
 -- One turn: after a run of ordinary bytes what stands at from is read.
-module _ (context : Context) {s : List ℕ} {at from : ℕ} {read : CharRead} (l : Looking (callsFor context) s at) (is : from ≡ runEnd context s at) where
+module _ (context : Context) {s : List ℕ} {at from : ℕ} {read : CharRead} (l : Looking (callsFor context) s at)
+    (is : from ≡ runEnd context s at) where
   module _ (reads : read ≡ readChar (take (length s - from) (drop from s))) where
     at-from : Looking (callsFor context) s from
     at-from = rw is (looking-run context l)

@@ -18,17 +18,21 @@ refused-requires-2 c κs = search needs
 
 returns-2 : tie.Need-returns-2
 returns-2 c =
-    let a = c .before .before .before .before .before .before .before .args in
-    c .refused2 .ensures ∙ bytes-rows (a .context) (a .source .now) (a .rows .now) (a .text .now) (a .errors .now) (omega arith) (c .before .if2 .taken)
+    let c7 = c .before .before .before .before .before .before .before in
+    let a = c7 .args in
+    c .refused2 .ensures ∙ bytes-rows (a .context) (a .source .now) (a .rows .now) (a .text .now) (a .errors .now) (omega arith)
+    (λ z. omega arith)
 
 refused-requires-3 : tie.Need-refused-requires-3
 refused-requires-3 c κs = search needs
 
 returns-3 : tie.Need-returns-3
 returns-3 c =
-    let a = c .before .before .before .before .before .before .before .before .args in
+    let c8 = c .before .before .before .before .before .before .before .before in
+    let a = c8 .args in
     c .refused3 .ensures
-    ∙ bytes-errors (a .context) (a .source .now) (a .rows .now) (a .text .now) (a .errors .now) (omega arith) (c .before .before .if2 .left) (c .before .if3 .taken)
+    ∙ bytes-errors (a .context) (a .source .now) (a .rows .now) (a .text .now) (a .errors .now) (omega arith) (omega arith)
+    (λ z. omega arith)
 
 array-share-prefix-zero : tie.Need-array-share-prefix-zero
 array-share-prefix-zero c = search needs
@@ -41,9 +45,14 @@ check-numbers-requires c κs = search needs
 
 returns-4 : tie.Need-returns-4
 returns-4 c =
-    let a = c .before .before .before .before .before .before .before .before .before .args in
+    let c3 = c .before .before .before in
+    let c9 = c3 .before .before .before .before .before .before in
+    let a = c9 .args in
     c .check-numbers .ensures
-    ∙ bytes-checked (a .context) (a .source .now) (a .rows .now) (a .text .now) (a .errors .now) (omega arith) (c .before .before .before .if2 .left) (c .before .before .if3 .left)
+    ∙ bytes-checked (a .context) (a .source .now) (a .rows .now) (a .text .now) (a .errors .now) (omega arith) (omega arith)
+    (omega arith)
 
 pub check-bytes-spec : {M : Type 1} → statement M
-check-bytes-spec = tie.close (tie.spec refused-requires returns refused-requires-2 returns-2 refused-requires-3 returns-3 array-share-prefix-zero slice-aggregate-none check-numbers-requires returns-4)
+check-bytes-spec = tie.close
+    (tie.spec refused-requires returns refused-requires-2 returns-2 refused-requires-3 returns-3 array-share-prefix-zero slice-aggregate-none
+    check-numbers-requires returns-4)

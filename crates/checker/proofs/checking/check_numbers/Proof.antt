@@ -13,7 +13,11 @@ refused-requires : tie.Need-refused-requires
 refused-requires c κs = search needs
 
 returns : tie.Need-returns
-returns c = let a = c .before .before .before .before .before .before .before .before .args in c .refused .ensures ∙ check-long (a .context) (a .source .now) (lent (a .rows .now) (a .row-bytes .now)) (a .text .now) (lent (a .words .now) (a .bytes .now)) (c .before .if1 .taken)
+returns c =
+    let c8 = c .before .before .before .before .before .before .before .before in
+    let a = c8 .args in c .refused .ensures
+    ∙ check-long (a .context) (a .source .now) (lent (a .rows .now) (a .row-bytes .now)) (a .text .now) (lent (a .words .now) (a .bytes .now))
+    (c .before .if1 .taken)
 
 count-requires : tie.Need-count-requires
 count-requires c κs = search needs
@@ -23,8 +27,10 @@ refused-requires-2 c κs = search needs
 
 returns-2 : tie.Need-returns-2
 returns-2 c =
-    let a = c .before .before .before .before .before .before .before .before .before .before .args in
-    c .refused2 .ensures ∙ check-rows (a .context) (a .source .now) (lent (a .rows .now) (a .row-bytes .now)) (a .text .now) (lent (a .words .now) (a .bytes .now)) (omega arith) (rw (c .before .before .count .ensures) at (c .before .if2 .taken))
+    let c10 = c .before .before .before .before .before .before .before .before .before .before in
+    let a = c10 .args in
+    c .refused2 .ensures ∙ check-rows (a .context) (a .source .now) (lent (a .rows .now) (a .row-bytes .now)) (a .text .now)
+    (lent (a .words .now) (a .bytes .now)) (omega arith) (rw (c .before .before .count .ensures) at (c .before .if2 .taken))
 
 count-requires-2 : tie.Need-count-requires-2
 count-requires-2 c κs = search needs
@@ -34,25 +40,36 @@ refused-requires-3 c κs = search needs
 
 returns-3 : tie.Need-returns-3
 returns-3 c =
-    let a = c .before .before .before .before .before .before .before .before .before .before .before .before .args in
+    let c3 = c .before .before .before in
+    let c4 = c3 .before in
+    let c12 = c4 .before .before .before .before .before .before .before .before in
+    let a = c12 .args in
     c .refused3 .ensures
-    ∙ check-errors (a .context) (a .source .now) (lent (a .rows .now) (a .row-bytes .now)) (a .text .now) (lent (a .words .now) (a .bytes .now)) (omega arith) (rw (c .before .before .before .before .count .ensures) at (c .before .before .before .if2 .left)) (rw (c .before .before .count2 .ensures) at (c .before .if3 .taken))
+    ∙ check-errors (a .context) (a .source .now) (lent (a .rows .now) (a .row-bytes .now)) (a .text .now) (lent (a .words .now) (a .bytes .now))
+    (omega arith) (rw (c4 .count .ensures) at (c3 .if2 .left)) (rw (c .before .before .count2 .ensures) at (c .before .if3 .taken))
 
 find-fault-requires : tie.Need-find-fault-requires
 find-fault-requires c κs = search needs
 
 cast-refused : tie.Need-cast-refused
 cast-refused c =
-    let a = c .before .before .before .before .before .before .before .before .before .before .before .before .before .args in omega (arith, c .before .find-fault .ensures .1, stop-place (a .context) (a .source .now))
+    let c13 = c .before .before .before .before .before .before .before .before .before .before .before .before .before in
+    let a = c13 .args in omega (arith, c .before .find-fault .ensures .1, stop-place (a .context) (a .source .now))
 
 refused-requires-4 : tie.Need-refused-requires-4
 refused-requires-4 c κs = search needs
 
 returns-4 : tie.Need-returns-4
 returns-4 c =
-    let a = c .before .before .before .before .before .before .before .before .before .before .before .before .before .before .args in
+    let c3 = c .before .before .before in
+    let c4 = c3 .before in
+    let c5 = c4 .before in
+    let c6 = c5 .before in
+    let c14 = c6 .before .before .before .before .before .before .before .before in
+    let a = c14 .args in
     c .refused4 .ensures
-    ∙ check-fault (a .context) (a .source .now) (lent (a .rows .now) (a .row-bytes .now)) (a .text .now) (lent (a .words .now) (a .bytes .now)) (omega arith) (rw (c .before .before .before .before .before .before .count .ensures) at (c .before .before .before .before .before .if2 .left)) (rw (c .before .before .before .before .count2 .ensures) at (c .before .before .before .if3 .left))
+    ∙ check-fault (a .context) (a .source .now) (lent (a .rows .now) (a .row-bytes .now)) (a .text .now) (lent (a .words .now) (a .bytes .now))
+    (omega arith) (rw (c6 .count .ensures) at (c5 .if2 .left)) (rw (c4 .count2 .ensures) at (c3 .if3 .left))
     (c .before .before .find-fault .ensures .0) (c .before .before .find-fault .ensures .1) (not-true _ (c .before .if4 .taken))
 
 builtin-names-requires : tie.Need-builtin-names-requires
@@ -68,15 +85,30 @@ slice-aggregate-judge-2 c =
 
 judge-requires : tie.Need-judge-requires
 judge-requires c κs =
-    let a = c .before .before .before .before .before .before .before .before .before .before .before .before .before .before .before .before .args in
+    let c4 = c .before .before .before .before in
+    let c7 = c4 .before .before .before in
+    let c8 = c7 .before in
+    let c16 = c8 .before .before .before .before .before .before .before .before in
+    let a = c16 .args in
     let k = stop-place (a .context) (a .source .now) in
-    (simp length-take (omega (arith, c .before .before .before .before .find-fault .ensures .1)), rw (c .before .before .before .before .before .before .before .before .count .ensures) at (c .before .before .before .before .before .before .before .if2 .left))
+    (simp length-take (omega (arith, c4 .find-fault .ensures .1)), rw (c8 .count .ensures) at (c7 .if2 .left))
 
 returns-5 : tie.Need-returns-5
 returns-5 c =
-    let a = c .before .before .before .before .before .before .before .before .before .before .before .before .before .before .before .before .before .args in
-    check-judged (a .context) (a .source .now) (lent (a .rows .now) (a .row-bytes .now)) (a .text .now) (lent (a .words .now) (a .bytes .now)) (omega arith) (rw (c .before .before .before .before .before .before .before .before .before .count .ensures) at (c .before .before .before .before .before .before .before .before .if2 .left)) (rw (c .before .before .before .before .before .before .before .count2 .ensures) at (c .before .before .before .before .before .before .if3 .left))
-    (c .before .before .before .before .before .find-fault .ensures .0) (c .before .before .before .before .before .find-fault .ensures .1) (not-false _ (c .before .before .before .before .if4 .left)) (c .before .before .before .builtin-names .ensures) (c .judge .ensures)
+    let c3 = c .before .before .before in
+    let c4 = c3 .before in
+    let c5 = c4 .before in
+    let c6 = c5 .before in
+    let c7 = c6 .before in
+    let c8 = c7 .before in
+    let c9 = c8 .before in
+    let c17 = c9 .before .before .before .before .before .before .before .before in
+    let a = c17 .args in
+    check-judged (a .context) (a .source .now) (lent (a .rows .now) (a .row-bytes .now)) (a .text .now) (lent (a .words .now) (a .bytes .now))
+    (omega arith) (rw (c9 .count .ensures) at (c8 .if2 .left)) (rw (c7 .count2 .ensures) at (c6 .if3 .left))
+    (c5 .find-fault .ensures .0) (c5 .find-fault .ensures .1) (not-false _ (c4 .if4 .left)) (c3 .builtin-names .ensures) (c .judge .ensures)
 
 pub check-numbers-spec : {M : Type 1} → statement M
-check-numbers-spec = tie.close (tie.spec refused-requires returns count-requires refused-requires-2 returns-2 count-requires-2 refused-requires-3 returns-3 find-fault-requires cast-refused refused-requires-4 returns-4 builtin-names-requires slice-aggregate-judge slice-aggregate-judge-2 judge-requires returns-5)
+check-numbers-spec = tie.close
+    (tie.spec refused-requires returns count-requires refused-requires-2 returns-2 count-requires-2 refused-requires-3 returns-3 find-fault-requires
+    cast-refused refused-requires-4 returns-4 builtin-names-requires slice-aggregate-judge slice-aggregate-judge-2 judge-requires returns-5)

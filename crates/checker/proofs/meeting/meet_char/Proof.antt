@@ -1,5 +1,4 @@
-use Prim.Native.Nat.{ℕ, _+_}
-use mathlib.Core.Path.{sym, _∙_, ap}
+use mathlib.Core.Path.{sym, _∙_}
 use native.Mathlib.Omega.{arith}
 use lib.ListN.{drop, length-drop}
 use borrow.Author.Needs.{needs}
@@ -41,22 +40,35 @@ written-as-requires c κs = search needs
 
 returns-3 : tie.Need-returns-3
 returns-3 c =
-    let a = c .before .before .before .before .before .before .before .before .before .before .args in
-    let read = rw (rest-from (a .text .now) (a .met .at)) at (sym (c .before .before .before .before .before .read-char .ensures) ∙ c .before .before .before .value .given .1) in
-    meets-miss (c .before .before .before .before .before .before .before .before .before .before .pre) (encode (a .c)) (other-char (drop (a .met .at) (a .text .now)) (a .c) read (λ e. c .if2 .taken (e ∙ sym (c .before .written-as .ensures))))
+    let c3 = c .before .before .before in
+    let c5 = c3 .before .before in
+    let c10 = c5 .before .before .before .before .before in
+    let a = c10 .args in
+    let read = rw (rest-from (a .text .now) (a .met .at)) at (sym (c5 .read-char .ensures) ∙ c3 .value .given .1) in
+    meets-miss (c10 .pre) (encode (a .c))
+    (other-char (drop (a .met .at) (a .text .now)) (a .c) read (λ e. c .if2 .taken (e ∙ sym (c .before .written-as .ensures))))
 
 add-t10 : tie.Need-add-t10
 add-t10 c =
-    let a = c .before .before .before .before .before .before .before .before .before .before .args in
-    let read = rw (rest-from (a .text .now) (a .met .at)) at (sym (c .before .before .before .before .before .read-char .ensures) ∙ c .before .before .before .value .given .1) in
+    let c3 = c .before .before .before in
+    let c5 = c3 .before .before in
+    let c10 = c5 .before .before .before .before .before in
+    let a = c10 .args in
+    let read = rw (rest-from (a .text .now) (a .met .at)) at (sym (c5 .read-char .ensures) ∙ c3 .value .given .1) in
     omega (arith, read-length _ _ _ read, length-drop (a .met .at) (a .text .now))
 
 returns-4 : tie.Need-returns-4
 returns-4 c =
-    let a = c .before .before .before .before .before .before .before .before .before .before .args in
-    let read = rw (rest-from (a .text .now) (a .met .at)) at (sym (c .before .before .before .before .before .read-char .ensures) ∙ c .before .before .before .value .given .1) in
+    let c3 = c .before .before .before in
+    let c5 = c3 .before .before in
+    let c7 = c5 .before .before in
+    let c10 = c7 .before .before .before in
+    let a = c10 .args in
+    let read = rw (rest-from (a .text .now) (a .met .at)) at (sym (c5 .read-char .ensures) ∙ c3 .value .given .1) in
     let same = this-char (drop (a .met .at) (a .text .now)) (a .c) read (c .if2 .left ∙ c .before .written-as .ensures) in
-    meets-hit (c .before .before .before .before .before .before .before .before .before .before .pre) (encode (a .c)) _ (not-false _ (c .before .before .before .before .before .before .before .if1 .left)) (same .0) (ap (λ (n : ℕ). a .met .at + n) (same .1))
+    meets-hit (c10 .pre) (encode (a .c)) _ (not-false _ (c7 .if1 .left)) (same .0) (omega (arith, same .1))
 
 pub meet-char-spec : {M : Type 1} → statement M
-meet-char-spec = tie.close (tie.spec returns sub-read-char part-read-char-start part-read-char-end read-char-requires enum-known-value returns-2 written-as-requires returns-3 add-t10 returns-4)
+meet-char-spec = tie.close
+    (tie.spec returns sub-read-char part-read-char-start part-read-char-end read-char-requires enum-known-value returns-2 written-as-requires
+    returns-3 add-t10 returns-4)

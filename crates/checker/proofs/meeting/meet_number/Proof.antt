@@ -18,19 +18,22 @@ count-requires c κs = search needs
 
 returns-2 : tie.Need-returns-2
 returns-2 c =
-    let a = c .before .before .before .before .before .before .args in
+    let c6 = c .before .before .before .before .before .before in
+    let a = c6 .args in
     let l = lent (a .words .now) (a .bytes .now) in
-    meets-miss (c .before .before .before .before .before .before .pre) (a .n ∷ []) (stands-nothing l (a .met .at) (a .n) (omega (arith, c .if2 .taken, c .before .count .ensures)))
+    meets-miss (c6 .pre) (a .n ∷ []) (stands-nothing l (a .met .at) (a .n) (omega (arith, c .if2 .taken, c .before .count .ensures)))
 
 number-at-requires : tie.Need-number-at-requires
 number-at-requires c κs = search needs
 
 returns-3 : tie.Need-returns-3
 returns-3 c =
-    let a = c .before .before .before .before .before .before .before .before .args in
+    let c3 = c .before .before .before in
+    let c8 = c3 .before .before .before .before .before in
+    let a = c8 .args in
     let l = lent (a .words .now) (a .bytes .now) in
-    let there : a .met .at < length l = omega (arith, c .before .before .if2 .left, c .before .before .before .count .ensures, c .before .before .before .before .before .before .before .before .pre) in
-    meets-miss (c .before .before .before .before .before .before .before .before .pre) (a .n ∷ [])
+    let there : a .met .at < length l = omega (arith, c .before .before .if2 .left, c3 .count .ensures, c8 .pre) in
+    meets-miss (c8 .pre) (a .n ∷ [])
     (stands-number l (a .met .at) (a .n) there ∙ ne-eqb _ _ (λ e. c .if3 .taken (c .before .number-at .ensures ∙ sym e)))
 
 add-t7 : tie.Need-add-t7
@@ -38,10 +41,13 @@ add-t7 c = search needs
 
 returns-4 : tie.Need-returns-4
 returns-4 c =
-    let a = c .before .before .before .before .before .before .before .before .args in
+    let c3 = c .before .before .before in
+    let c4 = c3 .before in
+    let c8 = c4 .before .before .before .before in
+    let a = c8 .args in
     let l = lent (a .words .now) (a .bytes .now) in
-    let there : a .met .at < length l = omega (arith, c .before .before .if2 .left, c .before .before .before .count .ensures, c .before .before .before .before .before .before .before .before .pre) in
-    meets-hit (c .before .before .before .before .before .before .before .before .pre) (a .n ∷ []) (a .met .at + 1) (not-false _ (c .before .before .before .before .if1 .left))
+    let there : a .met .at < length l = omega (arith, c .before .before .if2 .left, c3 .count .ensures, c8 .pre) in
+    meets-hit (c8 .pre) (a .n ∷ []) (a .met .at + 1) (not-false _ (c4 .if1 .left))
     (stands-number l (a .met .at) (a .n) there ∙ eq-eqb _ _ (sym (c .if3 .left) ∙ c .before .number-at .ensures)) refl
 
 pub meet-number-spec : {M : Type 1} → statement M

@@ -32,9 +32,11 @@ meet-char-requires-2 c κs = search needs
 
 returns-3 : tie.Need-returns-3
 returns-3 c =
-    let r = c .before .before .before .before .before .before .before .before .args .reference in
+    let c3 = c .before .before .before in
+    let c8 = c3 .before .before .before .before .before in
+    let r = c8 .args .reference in
     let two : length (r .chars) ≡ 2 = search needs in
-    rw (encodes-both (r .chars) (r .«num_chars») two (omega arith)) (meets-join (c .before .before .before .meet-char .ensures) (c .meet-char2 .ensures))
+    rw (encodes-both (r .chars) (r .«num_chars») two (omega arith)) (meets-join (c3 .meet-char .ensures) (c .meet-char2 .ensures))
 
 pub meet-text-spec : {M : Type 1} → statement M
 meet-text-spec = tie.close (tie.spec returns array-read-meet-char meet-char-requires returns-2 array-read-meet-char-2 meet-char-requires-2 returns-3)

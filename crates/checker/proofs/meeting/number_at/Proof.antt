@@ -7,10 +7,14 @@ use Rattle.checker.proofs.meeting.number_at.Statement.{statement}
 use Rattle.checker.proofs.meeting.number_at.Tie as tie
 
 mul-word-at : tie.Need-mul-word-at
-mul-word-at c = let a = c .before .before .before .args in omega (arith, lent-bytes (a .words .now) (a .bytes .now) (a .at) (c .if1 .taken) (c .before .before .before .pre))
+mul-word-at c =
+    let c3 = c .before .before .before in
+    let a = c3 .args in omega (arith, lent-bytes (a .words .now) (a .bytes .now) (a .at) (c .if1 .taken) (c3 .pre))
 
 word-at-requires : tie.Need-word-at-requires
-word-at-requires c κs = let a = c .before .before .before .args in omega (arith, lent-bytes (a .words .now) (a .bytes .now) (a .at) (c .if1 .taken) (c .before .before .before .pre))
+word-at-requires c κs =
+    let c3 = c .before .before .before in
+    let a = c3 .args in omega (arith, lent-bytes (a .words .now) (a .bytes .now) (a .at) (c .if1 .taken) (c3 .pre))
 
 returns : tie.Need-returns
 returns c =
@@ -18,10 +22,14 @@ returns c =
     c .word-at .ensures ∙ lent-byte (a .words .now) (a .bytes .now) (a .at) (c .before .if1 .taken) (c .before .before .before .before .pre)
 
 mul-result : tie.Need-mul-result
-mul-result c = let a = c .before .before .before .args in omega (arith, lent-words (a .words .now) (a .bytes .now) (a .at) (c .if1 .left) (c .before .before .before .pre))
+mul-result c =
+    let c3 = c .before .before .before in
+    let a = c3 .args in omega (arith, lent-words (a .words .now) (a .bytes .now) (a .at) (c .if1 .left) (c3 .pre))
 
 shared-slice-read-result : tie.Need-shared-slice-read-result
-shared-slice-read-result c = let a = c .before .before .before .before .args in lent-words (a .words .now) (a .bytes .now) (a .at) (c .before .if1 .left) (c .before .before .before .before .pre)
+shared-slice-read-result c =
+    let c4 = c .before .before .before .before in
+    let a = c4 .args in lent-words (a .words .now) (a .bytes .now) (a .at) (c .before .if1 .left) (c4 .pre)
 
 returns-2 : tie.Need-returns-2
 returns-2 c = let a = c .before .before .before .before .args in rw (ne-eqb (length (a .words .now)) 0 (c .before .if1 .left))

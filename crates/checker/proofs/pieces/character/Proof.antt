@@ -32,17 +32,24 @@ one-requires c κs = search needs
 
 returns : tie.Need-returns
 returns c =
-    let a = c .before .before .before .before .before .before .before .before .args in
+    let c3 = c .before .before .before in
+    let c5 = c3 .before .before in
+    let c8 = c5 .before .before .before in
+    let a = c8 .args in
     ap pieceOf (c .one .ensures)
     ∙ character-read (drop (a .at) (a .s .now))
-    (rw (rest-from (a .s .now) (a .at)) at (sym (c .before .before .before .before .before .read-char .ensures) ∙ c .before .before .before .value .given .1)) (c .before .character-code .ensures)
+    (rw (rest-from (a .s .now) (a .at)) at (sym (c5 .read-char .ensures) ∙ c3 .value .given .1)) (c .before .character-code .ensures)
 
 returns-2 : tie.Need-returns-2
 unfolding encodes
 returns-2 c =
-    let a = c .before .before .before .before .args in
+    let c4 = c .before .before .before .before in
+    let a = c4 .args in
     let read = rw (rest-from (a .s .now) (a .at)) at (c .before .read-char .ensures) in
-    character-none (drop (a .at) (a .s .now)) (c .before .read-char .result) (c .match .keys2) ∙ ap (λ (r : CharRead). character r (drop (a .at) (a .s .now))) read
+    character-none (drop (a .at) (a .s .now)) (c .before .read-char .result) (c .match .keys2)
+    ∙ ap (λ (r : CharRead). character r (drop (a .at) (a .s .now))) read
 
 pub character-spec : {M : Type 1} → statement M
-character-spec = tie.close (tie.spec sub-read-char part-read-char-start part-read-char-end read-char-requires enum-known-value character-code-requires one-requires returns returns-2)
+character-spec = tie.close
+    (tie.spec sub-read-char part-read-char-start part-read-char-end read-char-requires enum-known-value character-code-requires one-requires returns
+    returns-2)

@@ -34,8 +34,13 @@ tested s at there is e = sym (e ∙ ap alphanumeric (is ∙ peek-there s at 256 
 
 returns : tie.Need-returns Inv-loop μ-loop
 returns c =
-    let there = c .before .before .before .loop-test .taken in
-    skipped (c .before .before .before .before .loop .inv) (stopped-at there (tested (c .before .before .before .before .before .before .args .s .now) _ there (c .before .before .peek .ensures) (c .before .letter-or-digit .ensures) ∙ not-true _ (c .if1 .taken)))
+    let c3 = c .before .before .before in
+    let c4 = c3 .before in
+    let c6 = c4 .before .before in
+    let there = c3 .loop-test .taken in
+    skipped (c4 .loop .inv)
+    (stopped-at there
+    (tested (c6 .args .s .now) _ there (c .before .before .peek .ensures) (c .before .letter-or-digit .ensures) ∙ not-true _ (c .if1 .taken)))
 
 add-at : tie.Need-add-at Inv-loop μ-loop
 add-at c = omega arith
@@ -45,12 +50,17 @@ loop-less c = omega arith
 
 loop-again : tie.Need-loop-again Inv-loop μ-loop
 loop-again c =
-    let there = c .before .before .before .loop-test .taken in
-    skipping-on (omega arith) (c .before .before .before .before .loop .inv)
-    (passed-one there (tested (c .before .before .before .before .before .before .args .s .now) _ there (c .before .before .peek .ensures) (c .before .letter-or-digit .ensures) ∙ not-false _ (c .if1 .left)))
+    let c3 = c .before .before .before in
+    let c4 = c3 .before in
+    let c6 = c4 .before .before in
+    let there = c3 .loop-test .taken in
+    skipping-on (omega arith) (c4 .loop .inv)
+    (passed-one there
+    (tested (c6 .args .s .now) _ there (c .before .before .peek .ensures) (c .before .letter-or-digit .ensures) ∙ not-false _ (c .if1 .left)))
 
 returns-2 : tie.Need-returns-2 Inv-loop μ-loop
 returns-2 c = skipped (c .before .loop .inv) (stopped-end (omega arith))
 
 pub letters-end-spec : {M : Type 1} → statement M
-letters-end-spec = tie.close (tie.spec Inv-loop μ-loop loop-holds peek-requires letter-or-digit-requires returns add-at loop-less loop-again returns-2)
+letters-end-spec = tie.close
+    (tie.spec Inv-loop μ-loop loop-holds peek-requires letter-or-digit-requires returns add-at loop-less loop-again returns-2)

@@ -30,9 +30,14 @@ one-requires c κs = search needs
 
 returns : tie.Need-returns
 returns c =
-    let a = c .before .before .before .before .before .before .before .before .before .args in
+    let c3 = c .before .before .before in
+    let c4 = c3 .before in
+    let c5 = c4 .before in
+    let c9 = c5 .before .before .before .before in
+    let a = c9 .args in
     ap pieceOf (c .one .ensures)
-    ∙ name-none _ (a .context) (a .s .now) (a .from) (c .before .before .before .before .before .longest-name .ensures) true (c .before .before .before .before .if1 .taken) (c .before .before .before .letters-end .ensures) (c .before .before .peek .ensures)
+    ∙ name-none _ (a .context) (a .s .now) (a .from) (c5 .longest-name .ensures) true (c4 .if1 .taken) (c3 .letters-end .ensures)
+    (c .before .before .peek .ensures)
     (c .before .if2 .taken)
 
 one-requires-2 : tie.Need-one-requires-2
@@ -40,38 +45,53 @@ one-requires-2 c κs = search needs
 
 returns-2 : tie.Need-returns-2
 returns-2 c =
-    let a = c .before .before .before .before .before .before .before .before .before .args in
+    let c3 = c .before .before .before in
+    let c4 = c3 .before in
+    let c5 = c4 .before in
+    let c9 = c5 .before .before .before .before in
+    let a = c9 .args in
     ap pieceOf (c .one2 .ensures)
-    ∙ name-none _ (a .context) (a .s .now) (a .from) (c .before .before .before .before .before .longest-name .ensures) false (c .before .before .before .before .if1 .taken) (c .before .before .before .letters-end .ensures) (c .before .before .peek .ensures)
+    ∙ name-none _ (a .context) (a .s .now) (a .from) (c5 .longest-name .ensures) false (c4 .if1 .taken) (c3 .letters-end .ensures)
+    (c .before .before .peek .ensures)
     (c .before .if2 .left)
 
 add-if3 : tie.Need-add-if3
 add-if3 c =
-    let a = c .before .before .before .before .before .before .args in
-    omega (arith, name-there _ (a .context) (a .s .now) (a .from) (c .before .before .longest-name .ensures) (c .before .before .before .before .before .before .pre))
+    let c6 = c .before .before .before .before .before .before in
+    let a = c6 .args in
+    omega (arith, name-there _ (a .context) (a .s .now) (a .from) (c .before .before .longest-name .ensures) (c6 .pre))
 
 sub-if3 : tie.Need-sub-if3
 sub-if3 c = search needs
 
 shared-slice-read-if3 : tie.Need-shared-slice-read-if3
 shared-slice-read-if3 c =
-    let a = c .before .before .before .before .before .before .before .args in
-    omega (arith, name-there _ (a .context) (a .s .now) (a .from) (c .before .before .before .longest-name .ensures) (c .before .before .before .before .before .before .before .pre))
+    let c3 = c .before .before .before in
+    let c7 = c3 .before .before .before .before in
+    let a = c7 .args in
+    omega (arith, name-there _ (a .context) (a .s .now) (a .from) (c3 .longest-name .ensures) (c7 .pre))
 
 add-t21 : tie.Need-add-t21
 add-t21 c =
-    let a = c .before .before .before .before .before .before .before .before .args in
-    omega (arith, name-there _ (a .context) (a .s .now) (a .from) (c .before .before .before .before .longest-name .ensures) (c .before .before .before .before .before .before .before .before .pre))
+    let c4 = c .before .before .before .before in
+    let c8 = c4 .before .before .before .before in
+    let a = c8 .args in
+    omega (arith, name-there _ (a .context) (a .s .now) (a .from) (c4 .longest-name .ensures) (c8 .pre))
 
 returns-3 : tie.Need-returns-3
 returns-3 c =
-    let a = c .before .before .before .before .before .before .before .before .args in
-    name-closed _ (a .context) (a .s .now) (a .from) (c .before .before .before .before .longest-name .ensures) (c .before .before .before .if1 .left) (c .if3 .taken)
+    let c3 = c .before .before .before in
+    let c4 = c3 .before in
+    let c8 = c4 .before .before .before .before in
+    let a = c8 .args in
+    name-closed _ (a .context) (a .s .now) (a .from) (c4 .longest-name .ensures) (c3 .if1 .left) (c .if3 .taken)
 
 add-peek : tie.Need-add-peek
 add-peek c =
-    let a = c .before .before .before .before .before .before .before .before .args in
-    omega (arith, name-there _ (a .context) (a .s .now) (a .from) (c .before .before .before .before .longest-name .ensures) (c .before .before .before .before .before .before .before .before .pre))
+    let c4 = c .before .before .before .before in
+    let c8 = c4 .before .before .before .before in
+    let a = c8 .args in
+    omega (arith, name-there _ (a .context) (a .s .now) (a .from) (c4 .longest-name .ensures) (c8 .pre))
 
 peek-requires-2 : tie.Need-peek-requires-2
 peek-requires-2 c κs = search needs
@@ -84,21 +104,35 @@ one-requires-3 c κs = search needs
 
 returns-4 : tie.Need-returns-4
 returns-4 c =
-    let a = c .before .before .before .before .before .before .before .before .before .before .before .before .args in
+    let c3 = c .before .before .before in
+    let c4 = c3 .before in
+    let c7 = c4 .before .before .before in
+    let c8 = c7 .before in
+    let c12 = c8 .before .before .before .before in
+    let a = c12 .args in
     ap pieceOf (c .one3 .ensures)
-    ∙ name-stays _ (a .context) (a .s .now) (a .from) (c .before .before .before .before .before .before .before .before .longest-name .ensures) (c .before .before .before .before .before .before .before .if1 .left) (c .before .before .before .before .if3 .left) (c .before .before .before .peek2 .ensures)
+    ∙ name-stays _ (a .context) (a .s .now) (a .from) (c8 .longest-name .ensures) (c7 .if1 .left) (c4 .if3 .left) (c3 .peek2 .ensures)
     (sym (c .before .before .keeps-text .ensures) ∙ c .before .if4 .taken)
 
 add-t18 : tie.Need-add-t18
 add-t18 c =
-    let a = c .before .before .before .before .before .before .before .before .before .before .before .args in
-    omega (arith, name-there _ (a .context) (a .s .now) (a .from) (c .before .before .before .before .before .before .before .longest-name .ensures) (c .before .before .before .before .before .before .before .before .before .before .before .pre))
+    let c7 = c .before .before .before .before .before .before .before in
+    let c11 = c7 .before .before .before .before in
+    let a = c11 .args in
+    omega (arith, name-there _ (a .context) (a .s .now) (a .from) (c7 .longest-name .ensures) (c11 .pre))
 
 returns-5 : tie.Need-returns-5
 returns-5 c =
-    let a = c .before .before .before .before .before .before .before .before .before .before .before .args in
-    name-open _ (a .context) (a .s .now) (a .from) (c .before .before .before .before .before .before .before .longest-name .ensures) (c .before .before .before .before .before .before .if1 .left) (c .before .before .before .if3 .left) (c .before .before .peek2 .ensures)
+    let c3 = c .before .before .before in
+    let c6 = c3 .before .before .before in
+    let c7 = c6 .before in
+    let c11 = c7 .before .before .before .before in
+    let a = c11 .args in
+    name-open _ (a .context) (a .s .now) (a .from) (c7 .longest-name .ensures) (c6 .if1 .left) (c3 .if3 .left) (c .before .before .peek2 .ensures)
     (sym (c .before .keeps-text .ensures) ∙ c .if4 .left)
 
 pub named-spec : {M : Type 1} → statement M
-named-spec = tie.close (tie.spec sub-longest-name part-longest-name-start part-longest-name-end longest-name-requires letters-end-requires peek-requires one-requires returns one-requires-2 returns-2 add-if3 sub-if3 shared-slice-read-if3 add-t21 returns-3 add-peek peek-requires-2 keeps-text-requires one-requires-3 returns-4 add-t18 returns-5)
+named-spec = tie.close
+    (tie.spec sub-longest-name part-longest-name-start part-longest-name-end longest-name-requires letters-end-requires peek-requires one-requires
+    returns one-requires-2 returns-2 add-if3 sub-if3 shared-slice-read-if3 add-t21 returns-3 add-peek peek-requires-2 keeps-text-requires
+    one-requires-3 returns-4 add-t18 returns-5)

@@ -15,8 +15,10 @@ one-requires c κs = search needs
 
 returns : tie.Need-returns
 returns c =
-    let a = c .before .before .before .before .args in
-    ap pieceOf (c .one .ensures) ∙ number-none (a .base) (a .at) (a .from) _ (a .s .now) (c .before .before .digits-from .ensures .0) (c .before .if1 .taken)
+    let c4 = c .before .before .before .before in
+    let a = c4 .args in
+    ap pieceOf (c .one .ensures) ∙ number-none (a .base) (a .at) (a .from) _ (a .s .now) (c .before .before .digits-from .ensures .0)
+    (c .before .if1 .taken)
 
 meaning-requires : tie.Need-meaning-requires
 meaning-requires c κs = search needs
@@ -37,10 +39,14 @@ one-requires-2 c κs = search needs
 
 returns-2 : tie.Need-returns-2
 returns-2 c =
-    let a = c .before .before .before .before .before .before .before .args in
+    let c3 = c .before .before .before in
+    let c4 = c3 .before in
+    let c5 = c4 .before in
+    let c7 = c5 .before .before in
+    let a = c7 .args in
     ap pieceOf (c .one2 .ensures)
-    ∙ number-closed (a .base) (a .at) (a .from) _ (a .s .now) (c .before .before .before .before .before .digits-from .ensures .0) _ (c .before .before .before .before .if1 .left) (c .before .before .before .before .before .digits-from .ensures .1)
-    (c .before .before .before .before .before .before .before .pre .0) (c .before .before .peek .ensures) (c .before .before .before .meaning .ensures .0) (c .before .before .before .meaning .ensures .1) (c .before .if2 .taken)
+    ∙ number-closed (a .base) (a .at) (a .from) _ (a .s .now) (c5 .digits-from .ensures .0) _ (c4 .if1 .left) (c5 .digits-from .ensures .1)
+    (c7 .pre .0) (c .before .before .peek .ensures) (c3 .meaning .ensures .0) (c3 .meaning .ensures .1) (c .before .if2 .taken)
 
 sub-one-2 : tie.Need-sub-one-2
 sub-one-2 c = search needs
@@ -50,10 +56,16 @@ one-requires-3 c κs = search needs
 
 returns-3 : tie.Need-returns-3
 returns-3 c =
-    let a = c .before .before .before .before .before .before .before .args in
+    let c3 = c .before .before .before in
+    let c4 = c3 .before in
+    let c5 = c4 .before in
+    let c7 = c5 .before .before in
+    let a = c7 .args in
     ap pieceOf (c .one3 .ensures)
-    ∙ number-open (a .base) (a .at) (a .from) _ (a .s .now) (c .before .before .before .before .before .digits-from .ensures .0) _ (c .before .before .before .before .if1 .left) (c .before .before .before .before .before .digits-from .ensures .1)
-    (c .before .before .before .before .before .before .before .pre .0) (c .before .before .peek .ensures) (c .before .before .before .meaning .ensures .0) (c .before .before .before .meaning .ensures .1) (c .before .if2 .left)
+    ∙ number-open (a .base) (a .at) (a .from) _ (a .s .now) (c5 .digits-from .ensures .0) _ (c4 .if1 .left) (c5 .digits-from .ensures .1)
+    (c7 .pre .0) (c .before .before .peek .ensures) (c3 .meaning .ensures .0) (c3 .meaning .ensures .1) (c .before .if2 .left)
 
 pub number-spec : {M : Type 1} → statement M
-number-spec = tie.close (tie.spec digits-from-requires one-requires returns meaning-requires peek-requires add-one sub-one one-requires-2 returns-2 sub-one-2 one-requires-3 returns-3)
+number-spec = tie.close
+    (tie.spec digits-from-requires one-requires returns meaning-requires peek-requires add-one sub-one one-requires-2 returns-2 sub-one-2
+    one-requires-3 returns-3)

@@ -37,10 +37,13 @@ seen-as s at there is e = e ∙ ap digitOf (is ∙ peek-there s at 256 0 there)
 
 returns : tie.Need-returns Inv-loop μ-loop
 returns c =
-    let l = c .before .before .before .before .loop in
-    let there = c .before .before .before .loop-test .taken in
+    let c3 = c .before .before .before in
+    let c4 = c3 .before in
+    let c6 = c4 .before .before in
+    let l = c4 .loop in
+    let there = c3 .loop-test .taken in
     both (l .inv .0 ∙ digits-stop _ _ (l .value) (l .end) (l .inv .2) there
-    (rw (seen-as (c .before .before .before .before .before .before .args .s .now) _ there (c .before .before .peek .ensures) (c .before .digit-of .ensures)) at (c .if1 .taken)))
+    (rw (seen-as (c6 .args .s .now) _ there (c .before .before .peek .ensures) (c .before .digit-of .ensures)) at (c .if1 .taken)))
 
 extended-requires : tie.Need-extended-requires Inv-loop μ-loop
 extended-requires c κs = (omega arith, omega arith, omega arith)
@@ -53,9 +56,13 @@ loop-less c = omega arith
 
 loop-again : tie.Need-loop-again Inv-loop μ-loop
 loop-again c =
-    let l = c .before .before .before .before .before .loop in
-    let there = c .before .before .before .before .loop-test .taken in
-    let d = seen-as (c .before .before .before .before .before .before .before .args .s .now) _ there (c .before .before .before .peek .ensures) (c .before .before .digit-of .ensures) in (
+    let c3 = c .before .before .before in
+    let c4 = c3 .before in
+    let c5 = c4 .before in
+    let c7 = c5 .before .before in
+    let l = c5 .loop in
+    let there = c4 .loop-test .taken in
+    let d = seen-as (c7 .args .s .now) _ there (c3 .peek .ensures) (c .before .before .digit-of .ensures) in (
       rw (c .extended .ensures, d) (l .inv .0 ∙ digits-more _ _ (l .value) (l .end) there (rw d at (c .before .if1 .left))),
       omega arith,
       omega arith,
@@ -65,4 +72,5 @@ returns-2 : tie.Need-returns-2 Inv-loop μ-loop
 returns-2 c = let l = c .before .loop in both (l .inv .0 ∙ digits-end _ _ (l .value) (l .end) (l .inv .2) (omega arith))
 
 pub digits-from-spec : {M : Type 1} → statement M
-digits-from-spec = tie.close (tie.spec Inv-loop μ-loop loop-holds peek-requires digit-of-requires returns extended-requires add-end loop-less loop-again returns-2)
+digits-from-spec = tie.close
+    (tie.spec Inv-loop μ-loop loop-holds peek-requires digit-of-requires returns extended-requires add-end loop-less loop-again returns-2)

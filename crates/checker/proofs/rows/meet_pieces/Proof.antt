@@ -34,19 +34,32 @@ meet-codes-requires c κs = c .before .before .before .before .loop .inv .errors
 
 add-at : tie.Need-add-at Inv-loop μ-loop
 add-at c =
-    let k = piece-there (c .before .before .before .before .before .before .loop .inv) (c .before .before .before .before .before .loop-test .taken) (omega arith) (c .before .before .before .before .piece-at .result) (c .before .before .before .before .piece-at .ensures) in omega arith
+    let c4 = c .before .before .before .before in
+    let c6 = c4 .before .before in
+    let within = c6 .before .before .before .before .before .before .pre .1 in
+    let test = c4 .before .loop-test .taken in
+    omega (arith, piece-there (c6 .loop .inv) test (omega (arith, test, within)) (c4 .piece-at .result) (c4 .piece-at .ensures))
 
 loop-less : tie.Need-loop-less Inv-loop μ-loop
 loop-less c =
-    let k = piece-there (c .before .before .before .before .before .before .loop .inv) (c .before .before .before .before .before .loop-test .taken) (omega arith) (c .before .before .before .before .piece-at .result) (c .before .before .before .before .piece-at .ensures) in omega arith
+    let c4 = c .before .before .before .before in
+    let c6 = c4 .before .before in
+    let within = c6 .before .before .before .before .before .before .pre .1 in
+    let test = c4 .before .loop-test .taken in
+    omega (arith, piece-there (c6 .loop .inv) test (omega (arith, test, within)) (c4 .piece-at .result) (c4 .piece-at .ensures))
 
 loop-again : tie.Need-loop-again Inv-loop μ-loop
 loop-again c =
-    walk-on (c .before .before .before .before .before .before .loop .inv) (c .before .before .before .before .before .loop-test .taken) (omega arith) (c .before .before .before .before .piece-at .result) (c .before .before .before .before .piece-at .ensures) (c .before .before .meet-text .ensures)
-    (c .before .meet-codes .ensures)
+    let c4 = c .before .before .before .before in
+    let c6 = c4 .before .before in
+    let within = c6 .before .before .before .before .before .before .pre .1 in
+    let test = c4 .before .loop-test .taken in
+    walk-on (c6 .loop .inv) test (omega (arith, test, within)) (c4 .piece-at .result) (c4 .piece-at .ensures)
+    (c .before .before .meet-text .ensures) (c .before .meet-codes .ensures)
 
 returns : tie.Need-returns Inv-loop μ-loop
 returns c = walked (c .before .loop .inv) (omega arith)
 
 pub meet-pieces-spec : {M : Type 1} → statement M
-meet-pieces-spec = tie.close (tie.spec Inv-loop μ-loop loop-holds piece-at-requires meet-text-requires cast-meet-codes meet-codes-requires add-at loop-less loop-again returns)
+meet-pieces-spec = tie.close
+    (tie.spec Inv-loop μ-loop loop-holds piece-at-requires meet-text-requires cast-meet-codes meet-codes-requires add-at loop-less loop-again returns)

@@ -23,10 +23,14 @@ ordinary-run-requires : tie.Need-ordinary-run-requires Inv-loop μ-loop
 ordinary-run-requires c κs = c .before .loop .inv .there
 
 sub-read-char : tie.Need-sub-read-char Inv-loop μ-loop
-sub-read-char c = let k = c .ordinary-run .ensures in omega (arith, looking-run (c .before .before .before .before .args .context) (c .before .before .loop .inv) .there)
+sub-read-char c =
+    let c4 = c .before .before .before .before in
+    let k = c .ordinary-run .ensures in omega (arith, looking-run (c4 .args .context) (c .before .before .loop .inv) .there)
 
 part-read-char-start : tie.Need-part-read-char-start Inv-loop μ-loop
-part-read-char-start c = let k = c .ordinary-run .ensures in omega (arith, looking-run (c .before .before .before .before .args .context) (c .before .before .loop .inv) .there)
+part-read-char-start c =
+    let c4 = c .before .before .before .before in
+    let k = c .ordinary-run .ensures in omega (arith, looking-run (c4 .args .context) (c .before .before .loop .inv) .there)
 
 part-read-char-end : tie.Need-part-read-char-end Inv-loop μ-loop
 part-read-char-end c = search needs
@@ -39,8 +43,10 @@ answer-to-requires c κs = search needs
 
 returns : tie.Need-returns Inv-loop μ-loop
 returns c =
-    let t = c .before .before .before .before in
-    turn-stops (c .before .before .before .before .before .before .before .before .args .context) (t .before .before .loop .inv) (t .ordinary-run .ensures) (c .before .before .read-char .ensures)
+    let c4 = c .before .before .before .before in
+    let c8 = c4 .before .before .before .before in
+    let t = c4 in
+    turn-stops (c8 .args .context) (t .before .before .loop .inv) (t .ordinary-run .ensures) (c .before .before .read-char .ensures)
     (c .before .answer-to .ensures) (c .if1 .taken)
 
 size-of-requires : tie.Need-size-of-requires Inv-loop μ-loop
@@ -48,30 +54,39 @@ size-of-requires c κs = search needs
 
 add-at : tie.Need-add-at Inv-loop μ-loop
 add-at c =
-    let t = c .before .before .before .before .before in
+    let c3 = c .before .before .before in
+    let c5 = c3 .before .before in
+    let c9 = c5 .before .before .before .before in
+    let t = c5 in
     let l = t .before .before .loop .inv in
-    let turn = turn-on (c .before .before .before .before .before .before .before .before .before .args .context) l (t .ordinary-run .ensures) (c .before .before .before .read-char .ensures)
+    let turn = turn-on (c9 .args .context) l (t .ordinary-run .ensures) (c3 .read-char .ensures)
     (c .before .before .answer-to .ensures) (c .before .if1 .left) (c .size-of .ensures) in
     omega (arith, turn .there)
 
 loop-less : tie.Need-loop-less Inv-loop μ-loop
 loop-less c =
-    let t = c .before .before .before .before .before in
+    let c3 = c .before .before .before in
+    let c5 = c3 .before .before in
+    let c9 = c5 .before .before .before .before in
+    let t = c5 in
     let l = t .before .before .loop .inv in
-    let turn = turn-passes (c .before .before .before .before .before .before .before .before .before .args .context) l (t .ordinary-run .ensures) (c .before .before .before .read-char .ensures)
+    let turn = turn-passes (c9 .args .context) l (t .ordinary-run .ensures) (c3 .read-char .ensures)
     (c .before .before .answer-to .ensures) (c .before .if1 .left) (c .size-of .ensures) in
     omega (
       arith,
       turn (t .before .loop-test .taken),
-      turn-on (c .before .before .before .before .before .before .before .before .before .args .context) l (t .ordinary-run .ensures) (c .before .before .before .read-char .ensures)
+      turn-on (c9 .args .context) l (t .ordinary-run .ensures) (c3 .read-char .ensures)
           (c .before .before .answer-to .ensures) (c .before .if1 .left) (c .size-of .ensures) .there,
     )
 
 loop-again : tie.Need-loop-again Inv-loop μ-loop
 loop-again c =
-    let t = c .before .before .before .before .before in
+    let c3 = c .before .before .before in
+    let c5 = c3 .before .before in
+    let c9 = c5 .before .before .before .before in
+    let t = c5 in
     let l = t .before .before .loop .inv in
-    let turn = turn-on (c .before .before .before .before .before .before .before .before .before .args .context) l (t .ordinary-run .ensures) (c .before .before .before .read-char .ensures)
+    let turn = turn-on (c9 .args .context) l (t .ordinary-run .ensures) (c3 .read-char .ensures)
     (c .before .before .answer-to .ensures) (c .before .if1 .left) (c .size-of .ensures) in
     turn
 
