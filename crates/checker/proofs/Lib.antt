@@ -6,3 +6,4 @@ pub mod Walking
 pub mod RowLaws
 pub mod RowByRow
 pub mod CheckLaws
+pub mod RunLaws

@@ -20,7 +20,9 @@ use Rattle.standard.proofs.Puts.{numbers-length}
 use Rattle.checker.specs.declared.rows.Joint.{Joint}
 use Rattle.checker.specs.declared.rows.Judged.{Judged}
 use Rattle.checker.specs.Transcript.{Row, row, Left, left, total, reached, right, wrong, after}
+use Rattle.checker.specs.Runs.{PlainRow}
 use Rattle.checker.specs.Meeting.{so-far, Joins, leftAt, Judges}
+use Rattle.checker.proofs.Walking.{Walking, walk-run, walked}
 
 -- The pieces of a source have its bytes.
 pub pieces-total : (names : List Name) (context : Context) (s : List ℕ) → total (pieces names context s) ≡ length s
@@ -180,6 +182,15 @@ module _ (names : List Name) (context : Context) (s : List ℕ) (at : ℕ) (text
                   leaves = λ z i. left (sym ends i) (left-pieces i) (left-text i) (left-errors i);
                   there = λ z. (omega arith, omega arith, met .text-met .there, met .errors-met .there);
                 }
+
+  -- A row of bytes that the text has too.
+  pub row-plain : n ≢ 0 → n ≤ length s - at → at ≤ length s → e ≤ length errors → PlainRow s at n text t m k
+      → Judges names context s at text t errors e (row n m k) (record { reason = right; at = at + n; text = t + n; errors = e })
+  row-plain some fits there errors-there p =
+      let start : Walking names context s (at + n) text errors (Joins ps at (at + n - at) text (so-far t) errors (so-far e)) at (so-far t)
+      (so-far e) = record { there = there; text-there = omega (arith, p .there); errors-there = errors-there; rest = λ r j. j } in
+      let joins = walked (walk-run start n (omega arith) (omega arith) (p .there) (p .same)) (omega arith) in
+      row-right some fits joins refl refl (omega (arith, p .bytes)) refl (omega (arith, p .no-errors)) there
 
   -- A wrong row.
   pub row-wrong : {reason : ℕ} {r : Judged} → r .reason ≡ reason → 0 < reason → reason ≡ wrong here (row n m k)

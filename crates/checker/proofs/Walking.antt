@@ -1,25 +1,32 @@
 -- Meeting the pieces of a row, one after the other.
 use Prim.Native.Nat.{ℕ, zero, suc, _+_, _-_, _≤_, _<_}
+use Prim.Native.Char.{code}
 use mathlib.Core.Path.{_≡_, refl, sym, _∙_, ap, subst}
 use mathlib.Core.List.{List, [], _∷_}
+use mathlib.Core.Bool.{Bool, true, false, not, _||_, _&&_}
+use mathlib.Core.Logic.{inl, ⊎-elim}
 use native.Mathlib.Omega.{arith}
-use lib.ListN.{length, drop, length-drop}
-use lib.Seq.{drop-drop}
+use lib.Dec.{eqb}
+use lib.ListN.{length, getD, drop, length-drop}
+use lib.Seq.{drop-drop, drop-cons}
+use borrow.Author.Tests.{eqb-true, eq-eqb, not-true}
 use Rattle.standard.specs.declared.Context.{Context}
+use Rattle.standard.specs.Notation.{between}
 use Rattle.standard.specs.Errors.{numbers, placed}
 use Rattle.standard.specs.Names.{Name}
 use Rattle.standard.specs.Pieces as standard
 use Rattle.standard.specs.Reading.{pieces, joined}
+use Rattle.standard.proofs.Ascii.{Plain, plain-printable, plain-blank, plain-piece}
 use Rattle.standard.proofs.Bounds.{pieces-unfold}
+use Rattle.standard.proofs.Choice.{and-true, or-true}
 use Rattle.standard.proofs.PieceSize.{piece-size}
 use Rattle.standard.proofs.Puts.{numbers-append}
 use Rattle.checker.specs.declared.meeting.Met.{Met}
 use Rattle.checker.specs.declared.rows.Joint.{Joint}
-use Rattle.checker.specs.declared.pieces.Piece.{Piece}
-use Rattle.checker.specs.Pieces.{pieceOf}
 use Rattle.checker.specs.Transcript.{total, reached}
-use Rattle.checker.specs.Meeting.{Meets, Joins}
-use Rattle.checker.proofs.Meetings.{meets-none, meets-join}
+use Rattle.checker.specs.Runs.{alike, Alike, AlikeIf}
+use Rattle.checker.specs.Meeting.{Meets, so-far, Joins}
+use Rattle.checker.proofs.Meetings.{meets-none, meets-hit, meets-join, stands-number}
 
 -- The pieces of a row: the place after them, and what was met of their text and errors.
 abbrev joint : ℕ → Met → Met → Joint
@@ -72,7 +79,7 @@ module _ {names : List Name} {context : Context} {s : List ℕ} {end : ℕ} {tex
       let none : end - at ≡ 0 = omega arith in
       w .rest (joint at t e) (rw none (joins-none (pieces names context (drop at s)) at (w .text-there) (w .errors-there)))
 
-  module _ (inside : at < end) (byte : at < length s) (p : Piece) (is : pieceOf p ≡ standard.pieceAt names context (drop at s)) where
+  module _ (inside : at < end) (byte : at < length s) (p : standard.Piece) (is : p ≡ standard.pieceAt names context (drop at s)) where
     some-left : 0 < length (drop at s)
     some-left = simp length-drop (omega arith)
 
@@ -83,19 +90,61 @@ module _ {names : List Name} {context : Context} {s : List ℕ} {end : ℕ} {tex
         let k = piece-size names context (drop at s) some-left in
         (omega arith, omega (arith, length-drop at s))
 
-    split : pieces names context (drop at s) ≡ pieceOf p ∷ pieces names context (drop (at + p .size) s)
+    split : pieces names context (drop at s) ≡ p ∷ pieces names context (drop (at + p .size) s)
     split = pieces-unfold names context (drop at s) some-left ∙ rw (← is, drop-drop (p .size) at s)
 
     -- It was met too.
-    pub walk-on : {t′ e′ : Met} → Meets t (pieceOf p .text) text t′ → Meets e (numbers (placed at (pieceOf p .codes))) errors e′
+    pub walk-on : {t′ e′ : Met} → Meets t (p .text) text t′ → Meets e (numbers (placed at (p .codes))) errors e′
         → Walking names context s end text errors whole (at + p .size) t′ e′
     walk-on {t′} {e′} texts codes = record {
       there = piece-there .1;
       text-there = texts .there;
       errors-there = codes .there;
-      rest = λ r j. w .rest r (rw split (joins-one (pieceOf p) (pieces names context (drop (at + p .size) s)) at (end - at) (omega arith) texts codes
+      rest = λ r j. w .rest r (rw split (joins-one p (pieces names context (drop (at + p .size) s)) at (end - at) (omega arith) texts codes
           (rw less j)));
     }
       where
         less : end - at - p .size ≡ end - (at + p .size)
         less = omega arith
+
+-- A byte that is alike is a piece and its own text, without an error.
+alike-plain : (b c : ℕ) → alike b c ≡ true → Plain b × (b ≡ c)
+alike-plain b c e =
+    let w = and-true (between 0x20 0x7E b && not (eqb b (code "&")) || eqb b 0xA) (eqb b c) e in (
+      ⊎-elim print (λ k. plain-blank b (inl (eqb-true b 0xA k))) (or-true (between 0x20 0x7E b && not (eqb b (code "&"))) (eqb b 0xA) (w .0)),
+      eqb-true b c (w .1),
+    )
+  where
+    print : between 0x20 0x7E b && not (eqb b (code "&")) ≡ true → Plain b
+    print k =
+        let w = and-true (between 0x20 0x7E b) (not (eqb b (code "&"))) k in plain-printable b (w .0) (not-true (eqb b (code "&")) (w .1))
+
+-- Bytes that the text has too are met, each as a piece.
+pub walk-run : {names : List Name} {context : Context} {s : List ℕ} {end : ℕ} {text errors : List ℕ} {whole : Joint → Type 0} {at t : ℕ} {e : Met}
+    → Walking names context s end text errors whole at (so-far t) e → (n : ℕ) → at + n ≤ end → at + n ≤ length s → t + n ≤ length text
+    → Alike s at text t n → Walking names context s end text errors whole (at + n) (so-far (t + n)) e
+unfolding placed numbers
+walk-run {at = at} {t} w zero h k l same =
+    let here : at + 0 ≡ at = omega arith in
+    let there : t + 0 ≡ t = omega arith in rw (here, there) w
+walk-run {names} {context} {s} {end} {text} {errors} {whole} {at} {t} {e} w (suc n) h k l same =
+    let rest = walk-run w n (omega arith) (omega arith) (omega arith) (λ i j. same i (omega arith)) in
+    let b : ℕ = getD s (at + n) 0 in
+    let plain = alike-plain b (getD text (t + n) 0) (same n (omega arith)) in
+    let front : standard.piece 1 (b ∷ []) [] ≡ standard.pieceAt names context (drop (at + n) s) =
+    rw (drop-cons s (at + n) 0 (omega arith)) (sym (plain-piece names context b (drop (suc (at + n)) s) (plain .0))) in
+    let here : at + n + 1 ≡ at + suc n = omega arith in
+    let there : t + n + 1 ≡ t + suc n = omega arith in
+    let met : Meets (so-far (t + n)) (b ∷ []) text (so-far (t + n + 1)) =
+    meets-hit (omega arith) (b ∷ []) (t + n + 1) refl (stands-number text (t + n) b (omega arith) ∙ eq-eqb b (getD text (t + n) 0) (plain .1)) refl in
+    rw (here, there) at (walk-on rest (omega arith) (omega arith) (standard.piece 1 (b ∷ []) []) front met (meets-none (rest .errors-there)))
+
+-- The same where the text may be wrong already: then there are none.
+pub walk-run-if : {names : List Name} {context : Context} {s : List ℕ} {end : ℕ} {text errors : List ℕ} {whole : Joint → Type 0} {at t : ℕ}
+    {e : Met} (right : Bool) → Walking names context s end text errors whole at (record { right = right; at = t }) e → (n : ℕ) → at + n ≤ end
+    → at + n ≤ length s → t + n ≤ length text → AlikeIf right s at text t n
+    → Walking names context s end text errors whole (at + n) (record { right = right; at = t + n }) e
+walk-run-if true w n h k l same = walk-run w n h k l same
+walk-run-if {at = at} {t} false w n h k l none =
+    let here : at + n ≡ at = omega arith in
+    let there : t + n ≡ t = omega arith in rw (here, there) w

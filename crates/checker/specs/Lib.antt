@@ -1,3 +1,4 @@
 pub mod Pieces
 pub mod Transcript
 pub mod Meeting
+pub mod Runs

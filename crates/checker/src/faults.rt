@@ -2,6 +2,7 @@
 ghost use mathlib.Core.Path.{_≡_};
 ghost use Rattle.standard.specs.Contexts.{ends};
 ghost use Rattle.standard.specs.Reading.{callsFor, stopOf};
+use crate::runs::quiet_run;
 use standard::Context;
 use standard::characters::CharRead;
 use standard::characters::read_char;
@@ -41,17 +42,27 @@ pub(crate) fn find_fault(context: Context, s: &[u8]) -> Fault
 {
     let mut at: usize = 0;
     while at < s.len() {
-        let CharRead::Char { value, len } = read_char(&s[at..]) else {
+        let from = quiet_run(context, s, at);
+        if from == s.len() {
+            return Fault {
+                answer: 0,
+                place: from,
+            };
+        }
+        let CharRead::Char { value, len } = read_char(&s[from..]) else {
             return Fault {
                 answer: 1,
-                place: at,
+                place: from,
             };
         };
         let answer = called_for(context, value);
         if answer != 0 {
-            return Fault { answer, place: at };
+            return Fault {
+                answer,
+                place: from,
+            };
         }
-        at += len;
+        at = from + len;
     }
     Fault {
         answer: 0,

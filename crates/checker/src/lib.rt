@@ -6,6 +6,7 @@ mod meeting;
 mod pieces;
 mod references;
 mod rows;
+mod runs;
 
 pub use checking::Checked;
 pub use checking::check;

@@ -1,10 +1,12 @@
 // The rows of a transcript, judged one after the other.
 ghost use mathlib.Core.Path.{_≡_};
+ghost use mathlib.Core.Bool.{true};
 ghost use Prim.Native.Nat.{_≤_, _<_, _+_, _-_, _%_};
 ghost use lib.ListN.{length, drop};
 ghost use Rattle.standard.specs.Names.{records};
 ghost use Rattle.standard.specs.Reading.{pieces};
 ghost use Rattle.checker.specs.Transcript.{row, verdictOn};
+ghost use Rattle.checker.specs.Runs.{AlikeIf, PlainRow};
 ghost use Rattle.checker.specs.Meeting.{lent, so-far, Joins, Judges, Verdicts};
 use crate::meeting::Met;
 use crate::meeting::count;
@@ -12,6 +14,7 @@ use crate::meeting::meet_codes;
 use crate::meeting::meet_text;
 use crate::meeting::number_at;
 use crate::pieces::piece_at;
+use crate::runs::alike_run;
 use standard::Context;
 
 // The pieces of a row: the place after them, and their text and errors as they were met.
@@ -19,6 +22,17 @@ pub(crate) struct Joint {
     pub at: usize,
     pub text: Met,
     pub errors: Met,
+}
+
+// How many bytes from at on, up to n, are pieces that the text has from t on, where it was right so far.
+fn text_run(right: bool, s: &[u8], at: usize, n: usize, text: &[u8], t: usize) -> usize
+    requires { ⌜ (at + n ≤ length (now s)) × (t ≤ length (now text)) ⌝ }
+    ensures { λ r. ⌜ (r ≤ n) × (t + r ≤ length (now (text .entry))) × AlikeIf right (now (s .entry)) at (now (text .entry)) t r ⌝ }
+{
+    if right {
+        return alike_run(s, at, n, text, t);
+    }
+    0
 }
 
 // The pieces from `from` on that reach up to end or past it.
@@ -40,26 +54,51 @@ fn meet_pieces(
         (now (text .entry)) (so-far t) (lent (now (words .entry)) (now (bytes .entry))) (so-far e) r ⌝ }
 {
     let mut at = from;
-    let mut met_text = Met { right: true, at: t };
-    let mut met_errors = Met { right: true, at: e };
+    let mut right = true;
+    let mut u = t;
+    let mut sound = true;
+    let mut v = e;
     while at < end {
-        let piece = piece_at(table, context, s, at);
+        let run = text_run(right, s, at, end - at, text, u);
+        let here = at + run;
+        let met = Met { right, at: u + run };
+        if here == end {
+            return Joint {
+                at: here,
+                text: met,
+                errors: Met {
+                    right: sound,
+                    at: v,
+                },
+            };
+        }
+        let piece = piece_at(table, context, s, here);
         let reference = piece.reference;
-        met_text = meet_text(met_text, text, reference);
-        met_errors = meet_codes(
-            met_errors,
+        let met_text = meet_text(met, text, reference);
+        let met_errors = meet_codes(
+            Met {
+                right: sound,
+                at: v,
+            },
             words,
             bytes,
             piece.unclosed,
             piece.code,
-            at as u32,
+            here as u32,
         );
-        at += piece.size;
+        right = met_text.right;
+        u = met_text.at;
+        sound = met_errors.right;
+        v = met_errors.at;
+        at = here + piece.size;
     }
     Joint {
         at,
-        text: met_text,
-        errors: met_errors,
+        text: Met { right, at: u },
+        errors: Met {
+            right: sound,
+            at: v,
+        },
     }
 }
 
@@ -81,6 +120,17 @@ fn wrong_for(reason: u32) -> Judged
         text: 0,
         errors: 0,
     }
+}
+
+// Whether a row of n source bytes, m text bytes and k errors is as many bytes that the text has too, each a piece without an error.
+fn plain_row(s: &[u8], at: usize, n: usize, text: &[u8], t: usize, m: u32, k: u32) -> bool
+    requires { ⌜ (at + n ≤ length (now s)) × (t ≤ length (now text)) ⌝ }
+    ensures { λ r. ⌜ (r ≡ true → PlainRow (now (s .entry)) at n (now (text .entry)) t m k) ⌝ }
+{
+    if (n != m as usize) | (k != 0) {
+        return false;
+    }
+    alike_run(s, at, n, text, t) == n
 }
 
 // A row of n source bytes, m text bytes and k errors.
@@ -108,6 +158,14 @@ fn judge_row(
     }
     if s.len() - at < source {
         return wrong_for(1);
+    }
+    if plain_row(s, at, source, text, t, m, k) {
+        return Judged {
+            reason: 0,
+            at: at + source,
+            text: t + source,
+            errors: e,
+        };
     }
     let joint = meet_pieces(table, context, s, at, at + source, text, t, words, bytes, e);
     if joint.at != at + source {

@@ -3,20 +3,24 @@ use Prim.Native.Nat.{ℕ, zero, suc, _+_, _-_, _<_}
 use Prim.Native.Char.{code}
 use mathlib.Core.Path.{_≡_, refl, sym, _∙_, ap, ap₂}
 use mathlib.Core.List.{List, [], _∷_, _++_}
-use mathlib.Core.Bool.{Bool, true, false}
+use mathlib.Core.Bool.{Bool, true, false, not, _||_, _&&_}
+use mathlib.Core.Logic.{_⊎_, inl, inr}
 use native.Mathlib.Omega.{arith}
 use lib.Dec.{ltb, eqb}
 use lib.ListN.{length, take, drop}
-use borrow.Author.Tests.{lt-ltb, eq-eqb}
+use borrow.Author.Tests.{lt-ltb, eq-eqb, eqb-true, not-true}
 use Rattle.standard.specs.declared.Context.{Context}
 use Rattle.standard.specs.declared.characters.CharRead.the-variants.{Char}
-use Rattle.standard.specs.Notation.{if_then_else_, front}
+use Rattle.standard.specs.Notation.{if_then_else_, between, front}
 use Rattle.standard.specs.Utf8.{leadOf, tails, afterLead, readChar}
 use Rattle.standard.specs.Errors.{no-error, placed}
 use Rattle.standard.specs.Classes.{characterCode}
 use Rattle.standard.specs.Answers.{done}
 use Rattle.standard.specs.Names.{Name}
 use Rattle.standard.specs.Pieces.{Piece, piece, character, pieceAt}
+use Rattle.standard.proofs.Choice.{and-true, between-true}
+use Rattle.standard.proofs.Computing.{computing}
+use Rattle.standard.proofs.Lists.{below, below-at}
 use Rattle.standard.proofs.Fronts.{front-induction}
 use Rattle.standard.specs.Reading.{answerTo, sizeOf, Stop, stops, stopFrom, piecesFrom, pieces, Reading, reading, _⊕_, joined}
 
@@ -49,8 +53,30 @@ stop-run calls p quiet =
 abbrev pub Plain : ℕ → Type 0
 Plain b = (b < 0x80) × (eqb b (code "\r") ≡ false) × (eqb b (code "&") ≡ false) × (characterCode b ≡ no-error)
 
+-- Printable ASCII has no error and is no CR: computed for each.
+printable : ℕ → Bool
+printable b = not (between 0x20 0x7E b) || (not (eqb b (code "\r")) && eqb (characterCode b) no-error)
+
+all-printable : below 0x80 printable ≡ true
+unfolding computing below printable
+all-printable = refl
+
+-- So all of it but `&` stands for itself.
+pub plain-printable : (b : ℕ) → between 0x20 0x7E b ≡ true → eqb b (code "&") ≡ false → Plain b
+unfolding printable
+plain-printable b e f =
+    let h = between-true 0x20 0x7E b e in
+    let w = and-true (not (eqb b (code "\r"))) (eqb (characterCode b) no-error) (rw e at (below-at 0x80 printable b all-printable (omega arith))) in
+    (omega arith, not-true (eqb b (code "\r")) (w .0), f, eqb-true (characterCode b) no-error (w .1))
+
+-- LF and tab do too.
+pub plain-blank : (b : ℕ) → (b ≡ 0xA) ⊎ (b ≡ 0x9) → Plain b
+unfolding computing
+plain-blank b (inl e) = rw e (omega arith, refl, refl, refl)
+plain-blank b (inr e) = rw e (omega arith, refl, refl, refl)
+
 -- Such a byte is a piece of its own.
-plain-piece : (names : List Name) (context : Context) (b : ℕ) (s : List ℕ) → Plain b → pieceAt names context (b ∷ s) ≡ piece 1 (b ∷ []) []
+pub plain-piece : (names : List Name) (context : Context) (b : ℕ) (s : List ℕ) → Plain b → pieceAt names context (b ∷ s) ≡ piece 1 (b ∷ []) []
 unfolding pieceAt
 plain-piece names context b s h = rw (h .1, h .2, read-ascii b s (h .0), h .3)
 

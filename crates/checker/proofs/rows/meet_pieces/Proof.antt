@@ -4,62 +4,127 @@ use native.Mathlib.Omega.{arith}
 use lib.ListN.{length, drop}
 use Rattle.standard.specs.Names.{records}
 use Rattle.standard.specs.Reading.{pieces}
+use Rattle.checker.specs.Pieces.{pieceOf}
 use Rattle.checker.specs.Meeting.{lent, so-far, Joins}
-use Rattle.checker.proofs.Walking.{Walking, piece-there, walk-on, walked}
+use Rattle.checker.proofs.Walking.{Walking, piece-there, walk-on, walk-run-if, walked}
 use Rattle.checker.proofs.rows.meet_pieces.Statement.{statement}
 use Rattle.checker.proofs.rows.meet_pieces.Tie as tie
 
 abbrev Inv-loop : tie.InvT-loop
-Inv-loop table context s from end text t words bytes e at₀ met-text₀ met-errors₀ at met-text met-errors =
+Inv-loop table context s from end text t words bytes e at₀ right₀ u₀ sound₀ v₀ at right u sound v =
     Walking (records table) context s end text (lent words bytes)
-    (Joins (pieces (records table) context (drop from s)) from (end - from) text (so-far t) (lent words bytes) (so-far e)) at met-text met-errors
+    (Joins (pieces (records table) context (drop from s)) from (end - from) text (so-far t) (lent words bytes) (so-far e)) at
+    (record { right = right; at = u }) (record { right = sound; at = v })
 
 abbrev μ-loop : tie.MeasureT-loop
-μ-loop table context s from end text t words bytes e at₀ met-text₀ met-errors₀ at met-text met-errors = length s - at
+μ-loop table context s from end text t words bytes e at₀ right₀ u₀ sound₀ v₀ at right u sound v = length s - at
 
 loop-holds : tie.Need-loop-holds Inv-loop μ-loop
 loop-holds c = record { there = omega arith; text-there = omega arith; errors-there = omega arith; rest = λ r j. j }
 
+sub-text-run : tie.Need-sub-text-run Inv-loop μ-loop
+sub-text-run c = omega arith
+
+text-run-requires : tie.Need-text-run-requires Inv-loop μ-loop
+text-run-requires c κs = (omega arith, c .before .loop .inv .text-there)
+
+add-here : tie.Need-add-here Inv-loop μ-loop
+add-here c = omega (arith, c .text-run .ensures .0)
+
+add-t24 : tie.Need-add-t24 Inv-loop μ-loop
+add-t24 c = omega (arith, c .text-run .ensures .1)
+
+returns : tie.Need-returns Inv-loop μ-loop
+returns c =
+    let c3 = c .before .before .before in
+    let c9 = c3 .before .before .before .before .before .before in
+    let run = c .before .text-run .ensures in
+    let within = c9 .pre .1 in
+    let test = c .before .before .loop-test .taken in
+    let w = walk-run-if (c3 .loop .right) (c3 .loop .inv) (c .before .text-run .result) (omega (arith, run .0, test))
+    (omega (arith, run .0, test, within)) (run .1) (run .2) in
+    walked w (omega (arith, c .if1 .taken))
+
 piece-at-requires : tie.Need-piece-at-requires Inv-loop μ-loop
-piece-at-requires c κs = omega arith
+piece-at-requires c κs =
+    let c9 = c .before .before .before .before .before .before .before .before .before in
+    omega (arith, c .before .text-run .ensures .0, c .before .before .loop-test .taken, c9 .pre .1, c .if1 .left)
 
 meet-text-requires : tie.Need-meet-text-requires Inv-loop μ-loop
-meet-text-requires c κs = c .before .before .before .loop .inv .text-there
+meet-text-requires c κs = c .before .before .before .text-run .ensures .1
 
 cast-meet-codes : tie.Need-cast-meet-codes Inv-loop μ-loop
-cast-meet-codes c = omega arith
+cast-meet-codes c =
+    let c4 = c .before .before .before .before in
+    let c5 = c4 .before in
+    let c12 = c5 .before .before .before .before .before .before .before in
+    omega (arith, c4 .text-run .ensures .0, c5 .loop-test .taken, c12 .pre .1, c12 .pre .2)
 
 meet-codes-requires : tie.Need-meet-codes-requires Inv-loop μ-loop
-meet-codes-requires c κs = c .before .before .before .before .loop .inv .errors-there
+meet-codes-requires c κs = c .before .before .before .before .before .before .loop .inv .errors-there
 
 add-at : tie.Need-add-at Inv-loop μ-loop
 add-at c =
     let c4 = c .before .before .before .before in
-    let c6 = c4 .before .before in
-    let within = c6 .before .before .before .before .before .before .pre .1 in
-    let test = c4 .before .loop-test .taken in
-    omega (arith, piece-there (c6 .loop .inv) test (omega (arith, test, within)) (c4 .piece-at .result) (c4 .piece-at .ensures))
+    let c5 = c4 .before in
+    let c6 = c5 .before in
+    let c7 = c6 .before in
+    let c8 = c7 .before in
+    let c14 = c8 .before .before .before .before .before .before in
+    let run = c6 .text-run .ensures in
+    let within = c14 .pre .1 in
+    let test = c7 .loop-test .taken in
+    let w = walk-run-if (c8 .loop .right) (c8 .loop .inv) (c6 .text-run .result) (omega (arith, run .0, test))
+    (omega (arith, run .0, test, within)) (run .1) (run .2) in
+    let more = c5 .if1 .left in
+    omega (
+      arith,
+      c14 .pre .2,
+      piece-there w (omega (arith, run .0, test, more)) (omega (arith, run .0, test, within, more))
+          (pieceOf (c4 .piece-at .result)) (c4 .piece-at .ensures),
+    )
 
 loop-less : tie.Need-loop-less Inv-loop μ-loop
 loop-less c =
     let c4 = c .before .before .before .before in
-    let c6 = c4 .before .before in
-    let within = c6 .before .before .before .before .before .before .pre .1 in
-    let test = c4 .before .loop-test .taken in
-    omega (arith, piece-there (c6 .loop .inv) test (omega (arith, test, within)) (c4 .piece-at .result) (c4 .piece-at .ensures))
+    let c5 = c4 .before in
+    let c6 = c5 .before in
+    let c7 = c6 .before in
+    let c8 = c7 .before in
+    let c14 = c8 .before .before .before .before .before .before in
+    let run = c6 .text-run .ensures in
+    let within = c14 .pre .1 in
+    let test = c7 .loop-test .taken in
+    let w = walk-run-if (c8 .loop .right) (c8 .loop .inv) (c6 .text-run .result) (omega (arith, run .0, test))
+    (omega (arith, run .0, test, within)) (run .1) (run .2) in
+    let more = c5 .if1 .left in
+    omega (
+      arith,
+      piece-there w (omega (arith, run .0, test, more)) (omega (arith, run .0, test, within, more)) (pieceOf (c4 .piece-at .result))
+          (c4 .piece-at .ensures),
+    )
 
 loop-again : tie.Need-loop-again Inv-loop μ-loop
 loop-again c =
     let c4 = c .before .before .before .before in
-    let c6 = c4 .before .before in
-    let within = c6 .before .before .before .before .before .before .pre .1 in
-    let test = c4 .before .loop-test .taken in
-    walk-on (c6 .loop .inv) test (omega (arith, test, within)) (c4 .piece-at .result) (c4 .piece-at .ensures)
-    (c .before .before .meet-text .ensures) (c .before .meet-codes .ensures)
+    let c5 = c4 .before in
+    let c6 = c5 .before in
+    let c7 = c6 .before in
+    let c8 = c7 .before in
+    let c14 = c8 .before .before .before .before .before .before in
+    let run = c6 .text-run .ensures in
+    let within = c14 .pre .1 in
+    let test = c7 .loop-test .taken in
+    let w = walk-run-if (c8 .loop .right) (c8 .loop .inv) (c6 .text-run .result) (omega (arith, run .0, test))
+    (omega (arith, run .0, test, within)) (run .1) (run .2) in
+    let more = c5 .if1 .left in
+    walk-on w (omega (arith, run .0, test, more)) (omega (arith, run .0, test, within, more)) (pieceOf (c4 .piece-at .result))
+    (c4 .piece-at .ensures) (c .before .before .meet-text .ensures) (c .before .meet-codes .ensures)
 
-returns : tie.Need-returns Inv-loop μ-loop
-returns c = walked (c .before .loop .inv) (omega arith)
+returns-2 : tie.Need-returns-2 Inv-loop μ-loop
+returns-2 c = walked (c .before .loop .inv) (omega arith)
 
 pub meet-pieces-spec : {M : Type 1} → statement M
 meet-pieces-spec = tie.close
-    (tie.spec Inv-loop μ-loop loop-holds piece-at-requires meet-text-requires cast-meet-codes meet-codes-requires add-at loop-less loop-again returns)
+    (tie.spec Inv-loop μ-loop loop-holds sub-text-run text-run-requires add-here add-t24 returns piece-at-requires meet-text-requires cast-meet-codes
+    meet-codes-requires add-at loop-less loop-again returns-2)

@@ -1,0 +1,58 @@
+-- Runs: what holds of each of n elements, found one by one or in blocks.
+use Prim.Native.Nat.{ℕ, _+_, _-_, _≤_, _<_}
+use mathlib.Core.Path.{_≡_, sym, _∙_, subst}
+use mathlib.Core.List.{List}
+use mathlib.Core.Bool.{Bool, true, false, not}
+use mathlib.Core.Logic.{_⊎_, inl, inr, ⊎-elim}
+use native.Mathlib.Omega.{arith}
+use lib.ListN.{getD}
+use borrow.Author.Tests.{not-false}
+use Rattle.standard.proofs.Choice.{below?}
+use Rattle.checker.specs.Runs.{quiet, Quiet, alike, Alike}
+
+-- Whether the i-th byte from at on is quiet, and whether the i-th bytes are alike.
+abbrev pub quietAt : (end : ℕ) (s : List ℕ) (at : ℕ) → ℕ → Bool
+quietAt end s at i = quiet end (getD s (at + i) 0)
+
+abbrev pub alikeAt : (s : List ℕ) (at : ℕ) (text : List ℕ) (t : ℕ) → ℕ → Bool
+alikeAt s at text t i = alike (getD s (at + i) 0) (getD text (t + i) 0)
+
+-- A test holds of the numbers below n.
+abbrev pub Each : (ℕ → Bool) → ℕ → Type 0
+Each p n = (i : ℕ) → i < n → p i ≡ true
+
+-- Of none.
+pub each-none : (p : ℕ → Bool) → Each p 0
+each-none p i h = absurd (omega arith)
+
+-- Of n, and of m after them.
+pub each-join : (p : ℕ → Bool) (n m : ℕ) → Each p n → ((i : ℕ) → i < m → p (n + i) ≡ true) → Each p (n + m)
+each-join p n m first later i h =
+    ⊎-elim (first i)
+    (λ (k : n ≤ i). let e : n + (i - n) ≡ i = omega arith in subst (λ (j : ℕ). p j ≡ true) e (later (i - n) (omega arith))) (below? i n)
+
+-- Of one more.
+pub each-more : (p : ℕ → Bool) (n : ℕ) → Each p n → p n ≡ true → Each p (n + 1)
+each-more p n first e =
+    each-join p n 1 first (λ i h. let k : n ≡ n + i = omega arith in subst (λ (j : ℕ). p j ≡ true) k e)
+
+-- A count of those of which it does not hold, with one more that was tested.
+pub each-counted : (p : ℕ → Bool) (n : ℕ) {odd odd′ : ℕ} {t : Bool} → t ≡ p n → (odd ≡ 0 → Each p n)
+    → ((not t ≡ true) × (odd′ ≡ odd + 1)) ⊎ ((not t ≡ false) × (odd′ ≡ odd)) → odd′ ≡ 0 → Each p (n + 1)
+each-counted p n e first (inl w) z = absurd (omega arith)
+each-counted p n {t = t} e first (inr w) z = each-more p n (first (omega arith)) (sym e ∙ not-false t (w .0))
+
+-- Bytes that are quiet up to at, and n more.
+pub quiet-join : (end : ℕ) (s : List ℕ) (from at n : ℕ) → from ≤ at → Quiet end s from (at - from) → Quiet end s at n
+    → Quiet end s from (at + n - from)
+quiet-join end s from at n h first later =
+    let all : at - from + n ≡ at + n - from = omega arith in
+    rw all at (each-join (quietAt end s from) (at - from) n first
+    (λ j k. let there : at + j ≡ from + (at - from + j) = omega arith in rw there at (later j k)))
+
+-- Bytes of which i are alike, and n more.
+pub alike-join : (s : List ℕ) (at : ℕ) (text : List ℕ) (t i n : ℕ) → Alike s at text t i → Alike s (at + i) text (t + i) n
+    → Alike s at text t (i + n)
+alike-join s at text t i n first later =
+    each-join (alikeAt s at text t) i n first (λ j k. let there : at + i + j ≡ at + (i + j) = omega arith in
+    let here : t + i + j ≡ t + (i + j) = omega arith in rw (there, here) at (later j k))

@@ -1,0 +1,44 @@
+-- Runs of bytes that need no look at each character.
+use Prim.Native.Nat.{ℕ, _+_, _≤_, _<_}
+use Prim.Native.Char.{code}
+use mathlib.Core.Path.{_≡_}
+use mathlib.Core.List.{List}
+use mathlib.Core.Bool.{Bool, true, false, not, _||_, _&&_}
+use lib.Dec.{eqb}
+use lib.ListN.{length, getD}
+use Rattle.standard.specs.declared.Context.{Context}
+use Rattle.standard.specs.declared.Context.the-variants.{Text, Attribute}
+use Rattle.standard.specs.Notation.{between}
+
+-- The character before which a source ends.
+abbrev pub endOf : Context → ℕ
+endOf Text = code "<"
+endOf Attribute = code "\""
+
+-- A byte that is a character of its own and stops no reading: ASCII but NUL and the end.
+abbrev pub quiet : ℕ → ℕ → Bool
+quiet end b = between 0x1 0x7F b && not (eqb b end)
+
+-- The n bytes from at on are quiet.
+abbrev pub Quiet : (end : ℕ) (s : List ℕ) (at n : ℕ) → Type 0
+Quiet end s at n = (i : ℕ) → i < n → quiet end (getD s (at + i) 0) ≡ true
+
+-- A byte that is a piece and its own text, without an error, printable ASCII but `&` or LF, and is the byte c too.
+abbrev pub alike : ℕ → ℕ → Bool
+alike b c = (between 0x20 0x7E b && not (eqb b (code "&")) || eqb b 0xA) && eqb b c
+
+-- The n bytes of s from at on and those of text from t on are alike.
+abbrev pub Alike : (s : List ℕ) (at : ℕ) (text : List ℕ) (t n : ℕ) → Type 0
+Alike s at text t n = (i : ℕ) → i < n → alike (getD s (at + i) 0) (getD text (t + i) 0) ≡ true
+
+-- The same where a test holds; where it doesn't, there are none.
+abbrev pub AlikeIf : Bool → (s : List ℕ) (at : ℕ) (text : List ℕ) (t n : ℕ) → Type 0
+AlikeIf true s at text t n = Alike s at text t n
+AlikeIf false s at text t n = n ≡ 0
+
+-- A row of n source bytes, m text bytes and k errors is n bytes that the text has too.
+pub record PlainRow (s : List ℕ) (at n : ℕ) (text : List ℕ) (t m k : ℕ) : Type 0 where
+  pub bytes : m ≡ n
+  pub no-errors : k ≡ 0
+  pub there : t + n ≤ length text
+  pub same : Alike s at text t n
