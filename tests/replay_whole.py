@@ -1,4 +1,4 @@
-"""A second reading of the whole-slice calls: what decode whole and escape must answer, written down for a replay.
+"""A second reading of the whole-slice calls: what decode whole, escape and check must answer, written down for a replay.
 
 Made from the paper alone: document 01 (what the bench reads, pieces, names, whole-slice calls, marked sources, table of answers) and
 its settled readings. No code of the project was looked at. The names come from Python's copy of the WHATWG list, well-formed UTF-8
@@ -11,10 +11,15 @@ writes to that folder stdin, the records to be replayed, and stdout, one line fo
     record   kind, text room, error room, fill, n, then n bytes: 1 + 4 + 4 + 4 + 2 + n bytes, numbers little-endian;
              the source is the n bytes and then `fill` times `x`;
              kind is T or A (decode in text or in an attribute), t or a (escape in text or in attribute mode)
+             or C or c (check in text or in an attribute), with the text's length and how many numbers the rows and errors are for its
+             rooms; the n bytes are then row bytes, error bytes, text bytes (2 + 2 + 2), so many of each, and the source's, and the
+             text too is filled up with `x`, to its length
     decode   ANSWER TEXT ERRORS PLACE HEX CODE@PLACE CODE@PLACE ...
     escape   ANSWER TEXT PLACE HEX
+    check    ANSWER VERDICT ROW PLACE
 
-HEX is the written text in lowercase hex, `-` if it is empty, and LENGTH:SUM of its bytes if it is longer than 600 bytes.
+HEX is the written text in lowercase hex, `-` if it is empty, and LENGTH:SUM of its bytes if it is longer than 600 bytes. Rows and errors are
+numbers of four bytes, little-endian. What check must answer, and its cases, which come last, are in transcripts.py.
 
 The first half of this file is the model, the second half the cases. Before anything is written, the model is held against the marked
 sources M1 to M14, the sources that are 'only run', and the example of the bench program. A fixed seed draws the random cases, so two
@@ -25,6 +30,7 @@ import random
 import re
 import struct
 import sys
+from collections import Counter
 from html.entities import html5
 from itertools import product
 from pathlib import Path
@@ -336,7 +342,8 @@ def check_examples():
 # ------------------------------------------------------------------------------------------------------------------- records, lines
 
 # What the replaying program has room for, and the longest text that a line shows in full.
-MOST_TEXT_ROOM, MOST_ERROR_ROOM, MOST_CASE_BYTES = 400_000, 140_000, 65_600
+MOST_INPUT_BYTES = 640_000
+MOST_TEXT_ROOM, MOST_ERROR_ROOM, MOST_CASE_BYTES = 400_000, 140_000, 66_000
 LONGEST_HEX = 600
 
 
@@ -616,15 +623,17 @@ def main():
         sys.exit("usage: python3 tests/replay_whole.py crates/replay_whole")
     check_names()
     check_examples()
-    records = list(dict.fromkeys(all_records()))
+    from transcripts import transcript_records  # not before: it is made of this file's model
+    records = [*dict.fromkeys(all_records()), *transcript_records()]
     folder = Path(sys.argv[1])
     folder.mkdir(parents=True, exist_ok=True)
     calls = b"".join(record.packed() for record in records)
-    assert len(calls) <= MOST_TEXT_ROOM, "the program reads no more than that"
+    assert len(calls) <= MOST_INPUT_BYTES, "the program reads no more than that"
     lines = "".join(record.line() + "\n" for record in records).encode()
     (folder / "stdin").write_bytes(calls)
     (folder / "stdout").write_bytes(lines)
-    print(f"{len(records)} records, stdin {len(calls)} bytes, stdout {len(lines)} bytes")
+    kinds = ", ".join(f"{count} of {kind}" for kind, count in Counter(record.kind for record in records).items())
+    print(f"{len(records)} records ({kinds}), stdin {len(calls)} bytes, stdout {len(lines)} bytes")
 
 
 if __name__ == "__main__":

@@ -1,8 +1,8 @@
 -- The whole answer, one law for each way that the check returns.
 use Prim.Native.Nat.{ℕ, _%_, _≤_, _<_}
-use mathlib.Core.Path.{_≡_, sym, _∙_, ap}
+use mathlib.Core.Path.{_≡_, _∙_, ap}
 use mathlib.Core.List.{List}
-use mathlib.Core.Bool.{true, false, _||_, and-false}
+use mathlib.Core.Bool.{true, false, _||_}
 use mathlib.Core.Logic.{_≢_}
 use lib.Dec.{eqb}
 use lib.ListN.{length, take}
@@ -10,8 +10,8 @@ use borrow.Author.Tests.{eq-eqb, ne-eqb, lt-ltb, le-ltb}
 use Rattle.standard.specs.declared.Context.{Context}
 use Rattle.standard.specs.Answers.{done, context-end, too-long, not-whole, longest-slice}
 use Rattle.standard.specs.NameList.{builtin}
-use Rattle.standard.specs.Names.{Name, tableOf, records}
-use Rattle.standard.specs.Reading.{stopOf, covered}
+use Rattle.standard.specs.Names.{tableOf, records}
+use Rattle.standard.specs.Reading.{stopOf}
 use Rattle.standard.proofs.BuiltinNames.{table-read}
 use Rattle.checker.specs.declared.checking.Checked.{Checked}
 use Rattle.checker.specs.declared.rows.Verdict as code

@@ -20,7 +20,7 @@ use Rattle.standard.specs.Notation.{between}
 use Rattle.standard.specs.Contexts.{ends}
 use Rattle.standard.specs.Utf8.{readChar}
 use Rattle.standard.specs.Answers.{done, ill-formed}
-use Rattle.standard.specs.Reading.{callsFor, answerTo, sizeOf, Stop, stops, stopOf}
+use Rattle.standard.specs.Reading.{callsFor, answerTo, Stop, stops, stopOf}
 use Rattle.standard.proofs.Skips.{rest-from}
 use Rattle.standard.proofs.Utf8.{read-length, end-length}
 use Rattle.standard.proofs.Ascii.{read-ascii}

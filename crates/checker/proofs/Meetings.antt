@@ -8,13 +8,13 @@ use native.Mathlib.Omega.{arith}
 use types.Run.{OneOf, miss}
 use denote.Enum.Declared.{tagOf}
 use lib.Dec.{eqb}
-use lib.ListN.{length, getD, take, drop, length-append, length-drop, length-take, drop-of-length-le, take-append-drop}
+use lib.ListN.{length, getD, take, drop, length-append, length-drop, length-take, drop-of-length-le}
 use lib.Seq.{drop-drop, drop-cons, getD-drop}
 use borrow.Author.Tests.{eqb-true, eq-eqb, ne-eqb}
 use Rattle.standard.specs.declared.characters.CharRead.{CharRead}
 use Rattle.standard.specs.declared.characters.CharRead.the-variants.{Char}
 use Rattle.standard.proofs.characters.CharRead.{the-type}
-use Rattle.standard.specs.Utf8.{readChar, octets, written, encode}
+use Rattle.standard.specs.Utf8.{readChar, written, encode}
 use Rattle.standard.specs.Names.{stands, word32}
 use Rattle.standard.proofs.Choice.{no-way, test?}
 use Rattle.standard.proofs.Narrow.{stands-fits}
@@ -168,7 +168,7 @@ module _ (numbers bytes : List ℕ) (at : ℕ) where
   pub lent-byte : length numbers ≡ 0 → at < length (lent numbers bytes) → word32 bytes (4 * at) ≡ getD (lent numbers bytes) at 0
   lent-byte e h = rw (eq-eqb (length numbers) 0 e) (sym (words-at bytes at (lent-bytes e h)))
 
-  -- There are no bytes, or no words.
+  -- There are no bytes.
   pub lent-all-words : length bytes ≡ 0 → lent numbers bytes ≡ numbers
   unfolding words
   lent-all-words e = rw (empty bytes e) (by numbers)
@@ -180,9 +180,6 @@ module _ (numbers bytes : List ℕ) (at : ℕ) where
       by : (l : List ℕ) → lent l [] ≡ l
       by [] = refl
       by (a ∷ l) = rw (ne-eqb (length (a ∷ l)) 0 (λ z. omega arith))
-
-  pub lent-all-bytes : length numbers ≡ 0 → lent numbers bytes ≡ words bytes
-  lent-all-bytes e = rw (eq-eqb (length numbers) 0 e)
 
   pub lent-words : length numbers ≢ 0 → at < length (lent numbers bytes) → at < length numbers
   lent-words e h = rw (ne-eqb (length numbers) 0 e) at h

@@ -18,11 +18,9 @@ use Rattle.standard.specs.declared.characters.CharRead.{CharRead}
 use Rattle.standard.specs.declared.characters.CharRead.the-variants.{Char, Incomplete, Illformed, End}
 use Rattle.standard.proofs.characters.CharRead.{the-type}
 use Rattle.standard.specs.declared.names.Found.{Found}
-use Rattle.standard.specs.declared.names.CharRef.{CharRef}
 use Rattle.standard.specs.Notation.{if_then_else_, next, front}
 use Rattle.standard.specs.Utf8.{octets, encode, readChar}
 use Rattle.standard.specs.Classes.{alphanumeric, characterCode}
-use Rattle.standard.specs.Contexts.{inAttribute}
 use Rattle.standard.specs.Numbers.{isDigit, number, meaningOf}
 use Rattle.standard.specs.Names.{Name, longest}
 use Rattle.standard.specs.Pieces.{

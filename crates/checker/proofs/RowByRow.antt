@@ -2,21 +2,21 @@
 use Prim.Native.Nat.{ℕ, suc, _+_, _-_, _%_, _≤_, _<_}
 use mathlib.Core.Path.{_≡_, refl, sym, _∙_, ap}
 use mathlib.Core.List.{List, [], _∷_}
-use mathlib.Core.Bool.{Bool, true, false, _&&_, and-false}
+use mathlib.Core.Bool.{false, _&&_, and-false}
 use mathlib.Core.Logic.{_≢_}
 use native.Mathlib.Omega.{arith}
 use native.Mathlib.Numerals.{add-one}
 use lib.Dec.{eqb}
 use lib.ListN.{length, getD, drop, length-drop, drop-of-length-le}
 use lib.Seq.{drop-cons}
-use borrow.Author.Tests.{eq-eqb, ne-eqb}
+use borrow.Author.Tests.{ne-eqb}
 use Rattle.standard.specs.declared.Context.{Context}
 use Rattle.standard.specs.Names.{Name}
 use Rattle.standard.specs.Reading.{piecesFrom, pieces}
 use Rattle.standard.proofs.Bounds.{pieces-unfold}
 use Rattle.checker.specs.declared.rows.Judged.{Judged}
 use Rattle.checker.specs.declared.rows.Verdict as code
-use Rattle.checker.specs.Transcript.{Row, row, rowsOf, Left, right, remains, wrong, after, spent, Verdict, verdict, judge, verdictOn}
+use Rattle.checker.specs.Transcript.{row, rowsOf, Left, right, remains, spent, Verdict, verdict, judge, verdictOn}
 use Rattle.checker.specs.Meeting.{leftAt, Judges, Verdicts}
 
 -- The first of the rows that are left.

@@ -10,7 +10,6 @@ use lib.ListN.{length, drop, length-drop}
 use lib.Seq.{drop-drop}
 use borrow.Author.Tests.{eq-eqb, ne-eqb, lt-ltb, le-ltb}
 use Rattle.standard.specs.declared.Context.{Context}
-use Rattle.standard.specs.Errors.{numbers}
 use Rattle.standard.specs.Names.{Name, stands}
 use Rattle.standard.specs.Pieces.{Piece, pieceAt}
 use Rattle.standard.specs.Reading.{piecesFrom, pieces, Reading, joined}
@@ -19,7 +18,7 @@ use Rattle.standard.proofs.PieceSize.{piece-size}
 use Rattle.standard.proofs.Puts.{numbers-length}
 use Rattle.checker.specs.declared.rows.Joint.{Joint}
 use Rattle.checker.specs.declared.rows.Judged.{Judged}
-use Rattle.checker.specs.Transcript.{Row, row, Left, left, total, reached, right, wrong, after}
+use Rattle.checker.specs.Transcript.{row, Left, left, total, reached, right, wrong}
 use Rattle.checker.specs.Runs.{PlainRow}
 use Rattle.checker.specs.Meeting.{so-far, Joins, leftAt, Judges}
 use Rattle.checker.proofs.Walking.{Walking, walk-run, walked}
@@ -32,7 +31,7 @@ pieces-total names context =
     (λ s ps h rest. omega (arith, piece-size names context s h, length-drop (pieceAt names context s .size) s))
 
 -- Where the pieces that n bytes reach into have n bytes, the others are those of what is left.
-pub reached-rest : (names : List Name) (context : Context) (s : List ℕ) (n : ℕ) → let ps = pieces names context s in
+reached-rest : (names : List Name) (context : Context) (s : List ℕ) (n : ℕ) → let ps = pieces names context s in
     total (reached n ps) ≡ n → drop (length (reached n ps)) ps ≡ pieces names context (drop n s)
 unfolding reached total piecesFrom
 reached-rest names context s n e =
@@ -77,13 +76,13 @@ module _ (names : List Name) (context : Context) (s : List ℕ) (at : ℕ) (text
   given = joined at (reached n ps)
 
   -- It has no source bytes.
-  pub row-empty : n ≡ 0 → 1 ≡ wrong here (row n m k)
+  row-empty : n ≡ 0 → 1 ≡ wrong here (row n m k)
   unfolding wrong
   row-empty none = rw (eq-eqb n 0 none)
 
   module _ (some : n ≢ 0) where
     -- It goes past the covered part.
-    pub row-past : length s - at < n → 1 ≡ wrong here (row n m k)
+    row-past : length s - at < n → 1 ≡ wrong here (row n m k)
     unfolding wrong
     row-past h =
         rw (ne-eqb n 0 some, pieces-total names context (drop at s), length-drop at s, lt-ltb (length s - at) n h)
@@ -96,7 +95,7 @@ module _ (names : List Name) (context : Context) (s : List ℕ) (at : ℕ) (text
       passes-a = rw (ne-eqb n 0 some, pieces-total names context (drop at s), length-drop at s) (le-ltb (length s - at) n fits)
 
       -- It ends inside a piece.
-      pub row-inside : joint .at ≢ at + n → 2 ≡ wrong here (row n m k)
+      row-inside : joint .at ≢ at + n → 2 ≡ wrong here (row n m k)
       unfolding wrong
       row-inside other = rw (passes-a, ne-eqb (total (reached n ps)) n (λ z. other (omega (arith, met .at-is, z))))
 
@@ -105,7 +104,7 @@ module _ (names : List Name) (context : Context) (s : List ℕ) (at : ℕ) (text
         bytes = omega (arith, met .at-is)
 
         -- Its text is another.
-        pub row-text : joint .text .right ≡ false → 3 ≡ wrong here (row n m k)
+        row-text : joint .text .right ≡ false → 3 ≡ wrong here (row n m k)
         unfolding wrong
         row-text f =
             rw (passes-a, eq-eqb (total (reached n ps)) n bytes, sym (met .text-met .right-is) ∙ f, and-false (eqb (length (given .text)) m))
@@ -115,7 +114,7 @@ module _ (names : List Name) (context : Context) (s : List ℕ) (at : ℕ) (text
           text-end = met .text-met .at-is text-right
 
           -- It has another length.
-          pub row-text-count : joint .text .at - t ≢ m → 3 ≡ wrong here (row n m k)
+          row-text-count : joint .text .at - t ≢ m → 3 ≡ wrong here (row n m k)
           unfolding wrong
           row-text-count other =
               rw (passes-a, eq-eqb (total (reached n ps)) n bytes, ne-eqb (length (given .text)) m (λ z. other (omega (arith, text-end, z))))
@@ -125,7 +124,7 @@ module _ (names : List Name) (context : Context) (s : List ℕ) (at : ℕ) (text
             passes-c = rw (eq-eqb (length (given .text)) m (omega (arith, text-end)), sym (met .text-met .right-is) ∙ text-right) refl
 
             -- Its errors are others.
-            pub row-errors : joint .errors .right ≡ false → 4 ≡ wrong here (row n m k)
+            row-errors : joint .errors .right ≡ false → 4 ≡ wrong here (row n m k)
             unfolding wrong
             row-errors f =
                 rw (
@@ -141,7 +140,7 @@ module _ (names : List Name) (context : Context) (s : List ℕ) (at : ℕ) (text
               errors-end = omega (arith, met .errors-met .at-is errors-right, numbers-length (given .errors))
 
               -- They are more or fewer.
-              pub row-errors-count : joint .errors .at - e ≢ 2 * k → 4 ≡ wrong here (row n m k)
+              row-errors-count : joint .errors .at - e ≢ 2 * k → 4 ≡ wrong here (row n m k)
               unfolding wrong
               row-errors-count other =
                   rw (
@@ -176,7 +175,7 @@ module _ (names : List Name) (context : Context) (s : List ℕ) (at : ℕ) (text
                     let end : e + 2 * k ≡ joint .errors .at = omega (arith, errors-end) in
                     drop-drop (2 * k) e errors ∙ ap (λ (i : ℕ). drop i errors) end
 
-                pub row-right : at ≤ length s → Judges names context s at text t errors e (row n m k) (rightTo joint)
+                row-right : at ≤ length s → Judges names context s at text t errors e (row n m k) (rightTo joint)
                 row-right h = record {
                   reason-is = right-row;
                   leaves = λ z i. left (sym ends i) (left-pieces i) (left-text i) (left-errors i);
@@ -184,7 +183,7 @@ module _ (names : List Name) (context : Context) (s : List ℕ) (at : ℕ) (text
                 }
 
   -- A row of bytes that the text has too.
-  pub row-plain : n ≢ 0 → n ≤ length s - at → at ≤ length s → e ≤ length errors → PlainRow s at n text t m k
+  row-plain : n ≢ 0 → n ≤ length s - at → at ≤ length s → e ≤ length errors → PlainRow s at n text t m k
       → Judges names context s at text t errors e (row n m k) (record { reason = right; at = at + n; text = t + n; errors = e })
   row-plain some fits there errors-there p =
       let start : Walking names context s (at + n) text errors (Joins ps at (at + n - at) text (so-far t) errors (so-far e)) at (so-far t)
@@ -193,6 +192,59 @@ module _ (names : List Name) (context : Context) (s : List ℕ) (at : ℕ) (text
       row-right some fits joins refl refl (omega (arith, p .bytes)) refl (omega (arith, p .no-errors)) there
 
   -- A wrong row.
-  pub row-wrong : {reason : ℕ} {r : Judged} → r .reason ≡ reason → 0 < reason → reason ≡ wrong here (row n m k)
+  row-wrong : {reason : ℕ} {r : Judged} → r .reason ≡ reason → 0 < reason → reason ≡ wrong here (row n m k)
       → Judges names context s at text t errors e (row n m k) r
   row-wrong is h e = record { reason-is = is ∙ e; leaves = λ z. absurd (omega arith); there = λ z. absurd (omega arith) }
+
+-- The same of a row that was judged: it is wrong for a reason, or right.
+module _ {names : List Name} {context : Context} {s : List ℕ} {at : ℕ} {text : List ℕ} {t : ℕ} {errors : List ℕ} {e n m k : ℕ} where
+  pub judged-empty : {r : Judged} → n ≡ 0 → r .reason ≡ 1 → Judges names context s at text t errors e (row n m k) r
+  judged-empty none is =
+      row-wrong names context s at text t errors e n m k is (omega arith)
+      (row-empty names context s at text t errors e n m k none)
+
+  module _ (some : n ≢ 0) where
+    pub judged-past : {r : Judged} → length s - at < n → r .reason ≡ 1 → Judges names context s at text t errors e (row n m k) r
+    judged-past h is =
+        row-wrong names context s at text t errors e n m k is (omega arith)
+        (row-past names context s at text t errors e n m k some h)
+
+    pub judged-plain : n ≤ length s - at → at ≤ length s → e ≤ length errors → PlainRow s at n text t m k
+        → Judges names context s at text t errors e (row n m k) (record { reason = right; at = at + n; text = t + n; errors = e })
+    judged-plain = row-plain names context s at text t errors e n m k some
+
+    module _ (fits : n ≤ length s - at) {joint : Joint}
+        (joins : Joins (pieces names context (drop at s)) at (at + n - at) text (so-far t) errors (so-far e) joint) where
+      pub judged-inside : {r : Judged} → joint .at ≢ at + n → r .reason ≡ 2 → Judges names context s at text t errors e (row n m k) r
+      judged-inside other is =
+          row-wrong names context s at text t errors e n m k is (omega arith)
+          (row-inside names context s at text t errors e n m k some fits joins other)
+
+      module _ (ends : joint .at ≡ at + n) where
+        pub judged-text : {r : Judged} → joint .text .right ≡ false → r .reason ≡ 3 → Judges names context s at text t errors e (row n m k) r
+        judged-text f is =
+            row-wrong names context s at text t errors e n m k is (omega arith)
+            (row-text names context s at text t errors e n m k some fits joins ends f)
+
+        module _ (texts : joint .text .right ≡ true) where
+          pub judged-text-count : {r : Judged} → joint .text .at - t ≢ m → r .reason ≡ 3 → Judges names context s at text t errors e (row n m k) r
+          judged-text-count other is =
+              row-wrong names context s at text t errors e n m k is (omega arith)
+              (row-text-count names context s at text t errors e n m k some fits joins ends texts other)
+
+          module _ (count : joint .text .at - t ≡ m) where
+            pub judged-errors : {r : Judged} → joint .errors .right ≡ false → r .reason ≡ 4 → Judges names context s at text t errors e (row n m k) r
+            judged-errors f is =
+                row-wrong names context s at text t errors e n m k is (omega arith)
+                (row-errors names context s at text t errors e n m k some fits joins ends texts count f)
+
+            module _ (sound : joint .errors .right ≡ true) where
+              pub judged-errors-count : {r : Judged} → joint .errors .at - e ≢ 2 * k → r .reason ≡ 4
+                  → Judges names context s at text t errors e (row n m k) r
+              judged-errors-count other is =
+                  row-wrong names context s at text t errors e n m k is (omega arith)
+                  (row-errors-count names context s at text t errors e n m k some fits joins ends texts count sound other)
+
+              pub judged-right : joint .errors .at - e ≡ 2 * k → at ≤ length s
+                  → Judges names context s at text t errors e (row n m k) (rightTo joint)
+              judged-right = row-right names context s at text t errors e n m k some fits joins ends texts count sound

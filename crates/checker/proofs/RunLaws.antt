@@ -50,6 +50,18 @@ quiet-join end s from at n h first later =
     rw all at (each-join (quietAt end s from) (at - from) n first
     (λ j k. let there : at + j ≡ from + (at - from + j) = omega arith in rw there at (later j k)))
 
+-- The byte at at too.
+pub quiet-one : (end : ℕ) (s : List ℕ) (from at : ℕ) → from ≤ at → Quiet end s from (at - from) → quiet end (getD s at 0) ≡ true
+    → Quiet end s from (at + 1 - from)
+quiet-one end s from at h first e =
+    quiet-join end s from at 1 h first (λ i k. let here : at ≡ at + i = omega arith in rw here at e)
+
+-- The bytes from there to a later place too.
+pub quiet-on : (end : ℕ) (s : List ℕ) (from at to : ℕ) → from ≤ at → at ≤ to → Quiet end s from (at - from) → Quiet end s at (to - at)
+    → Quiet end s from (to - from)
+quiet-on end s from at to h k first later =
+    let all : at + (to - at) ≡ to = omega arith in rw all at (quiet-join end s from at (to - at) h first later)
+
 -- Bytes of which i are alike, and n more.
 pub alike-join : (s : List ℕ) (at : ℕ) (text : List ℕ) (t i n : ℕ) → Alike s at text t i → Alike s (at + i) text (t + i) n
     → Alike s at text t (i + n)

@@ -1,7 +1,7 @@
 -- Meeting the pieces of a row, one after the other.
 use Prim.Native.Nat.{ℕ, zero, suc, _+_, _-_, _≤_, _<_}
 use Prim.Native.Char.{code}
-use mathlib.Core.Path.{_≡_, refl, sym, _∙_, ap, subst}
+use mathlib.Core.Path.{_≡_, refl, sym, _∙_, ap}
 use mathlib.Core.List.{List, [], _∷_}
 use mathlib.Core.Bool.{Bool, true, false, not, _||_, _&&_}
 use mathlib.Core.Logic.{inl, ⊎-elim}
@@ -9,7 +9,7 @@ use native.Mathlib.Omega.{arith}
 use lib.Dec.{eqb}
 use lib.ListN.{length, getD, drop, length-drop}
 use lib.Seq.{drop-drop, drop-cons}
-use borrow.Author.Tests.{eqb-true, eq-eqb, not-true}
+use borrow.Author.Tests.{eqb-true, eq-eqb}
 use Rattle.standard.specs.declared.Context.{Context}
 use Rattle.standard.specs.Notation.{between}
 use Rattle.standard.specs.Errors.{numbers, placed}
@@ -111,13 +111,10 @@ module _ {names : List Name} {context : Context} {s : List ℕ} {end : ℕ} {tex
 alike-plain : (b c : ℕ) → alike b c ≡ true → Plain b × (b ≡ c)
 alike-plain b c e =
     let w = and-true (between 0x20 0x7E b && not (eqb b (code "&")) || eqb b 0xA) (eqb b c) e in (
-      ⊎-elim print (λ k. plain-blank b (inl (eqb-true b 0xA k))) (or-true (between 0x20 0x7E b && not (eqb b (code "&"))) (eqb b 0xA) (w .0)),
+      ⊎-elim (plain-printable b) (λ k. plain-blank b (inl (eqb-true b 0xA k)))
+          (or-true (between 0x20 0x7E b && not (eqb b (code "&"))) (eqb b 0xA) (w .0)),
       eqb-true b c (w .1),
     )
-  where
-    print : between 0x20 0x7E b && not (eqb b (code "&")) ≡ true → Plain b
-    print k =
-        let w = and-true (between 0x20 0x7E b) (not (eqb b (code "&"))) k in plain-printable b (w .0) (not-true (eqb b (code "&")) (w .1))
 
 -- Bytes that the text has too are met, each as a piece.
 pub walk-run : {names : List Name} {context : Context} {s : List ℕ} {end : ℕ} {text errors : List ℕ} {whole : Joint → Type 0} {at t : ℕ} {e : Met}

@@ -2,7 +2,7 @@
 use Prim.Native.Nat.{ℕ, _+_, _≤_, _<_}
 use mathlib.Core.Path.{_≡_}
 use mathlib.Core.List.{List}
-use mathlib.Core.Bool.{Bool, true, _&&_}
+use mathlib.Core.Bool.{true, _&&_}
 use lib.Dec.{eqb}
 use lib.ListN.{length, drop}
 use Rattle.standard.specs.declared.Context.{Context}
@@ -10,7 +10,7 @@ use Rattle.standard.specs.Notation.{if_then_else_}
 use Rattle.standard.specs.Errors.{numbers}
 use Rattle.standard.specs.Names.{Name, stands}
 use Rattle.standard.specs.Pieces.{Piece}
-use Rattle.standard.specs.Reading.{pieces, Reading, joined}
+use Rattle.standard.specs.Reading.{pieces, joined}
 use Rattle.checker.specs.declared.meeting.Met.{Met}
 use Rattle.checker.specs.declared.rows.Joint.{Joint}
 use Rattle.checker.specs.declared.rows.Judged.{Judged}

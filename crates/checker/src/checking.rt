@@ -36,11 +36,11 @@ fn check_numbers(
     rows: &[u32],
     row_bytes: &[u8],
     text: &[u8],
-    words: &[u32],
-    bytes: &[u8],
+    errors: &[u32],
+    error_bytes: &[u8],
 ) -> Checked
     ensures { λ r. ⌜ r ≡ checkedOf builtin context (now (source .entry)) (lent (now (rows .entry)) (now («row_bytes» .entry)))
-        (now (text .entry)) (lent (now (words .entry)) (now (bytes .entry))) ⌝ }
+        (now (text .entry)) (lent (now (errors .entry)) (now («error_bytes» .entry))) ⌝ }
 {
     if 65536 < source.len() {
         return refused(3, 0);
@@ -48,7 +48,7 @@ fn check_numbers(
     if count(rows, row_bytes) % 3 != 0 {
         return refused(10, 0);
     }
-    if count(words, bytes) % 2 != 0 {
+    if count(errors, error_bytes) % 2 != 0 {
         return refused(10, 0);
     }
     let fault = find_fault(context, source);
@@ -66,8 +66,8 @@ fn check_numbers(
         rows,
         row_bytes,
         text,
-        words,
-        bytes,
+        errors,
+        error_bytes,
     );
     Checked {
         answer: 0,

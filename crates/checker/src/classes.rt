@@ -5,6 +5,7 @@ ghost use lib.ListN.{getD};
 ghost use Rattle.standard.specs.Classes as standard;
 ghost use Rattle.standard.specs.Numbers.{digitOf};
 
+// A byte as a number.
 pub(crate) fn wide(b: u8) -> u32
     ensures { λ r. ⌜ (r ≡ b) × (r < 256) ⌝ }
 {

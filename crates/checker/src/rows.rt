@@ -44,14 +44,14 @@ fn meet_pieces(
     end: usize,
     text: &[u8],
     t: usize,
-    words: &[u32],
-    bytes: &[u8],
+    errors: &[u32],
+    error_bytes: &[u8],
     e: usize,
 ) -> Joint
     requires { ⌜ (from ≤ end) × (end ≤ length (now s)) × (length (now s) ≤ 65536) × (t ≤ length (now text))
-        × (e ≤ length (lent (now words) (now bytes))) ⌝ }
+        × (e ≤ length (lent (now errors) (now «error_bytes»))) ⌝ }
     ensures { λ r. ⌜ Joins (pieces (records (now (table .entry))) context (drop from (now (s .entry)))) from (end - from)
-        (now (text .entry)) (so-far t) (lent (now (words .entry)) (now (bytes .entry))) (so-far e) r ⌝ }
+        (now (text .entry)) (so-far t) (lent (now (errors .entry)) (now («error_bytes» .entry))) (so-far e) r ⌝ }
 {
     let mut at = from;
     let mut right = true;
@@ -80,8 +80,8 @@ fn meet_pieces(
                 right: sound,
                 at: v,
             },
-            words,
-            bytes,
+            errors,
+            error_bytes,
             piece.unclosed,
             piece.code,
             here as u32,
@@ -141,16 +141,16 @@ fn judge_row(
     at: usize,
     text: &[u8],
     t: usize,
-    words: &[u32],
-    bytes: &[u8],
+    errors: &[u32],
+    error_bytes: &[u8],
     e: usize,
     n: u32,
     m: u32,
     k: u32,
 ) -> Judged
-    requires { ⌜ (at ≤ length (now s)) × (length (now s) ≤ 65536) × (t ≤ length (now text)) × (e ≤ length (lent (now words) (now bytes))) ⌝ }
+    requires { ⌜ (at ≤ length (now s)) × (length (now s) ≤ 65536) × (t ≤ length (now text)) × (e ≤ length (lent (now errors) (now «error_bytes»))) ⌝ }
     ensures { λ r. ⌜ Judges (records (now (table .entry))) context (now (s .entry)) at (now (text .entry)) t
-        (lent (now (words .entry)) (now (bytes .entry))) e (row n m k) r ⌝ }
+        (lent (now (errors .entry)) (now («error_bytes» .entry))) e (row n m k) r ⌝ }
 {
     let source = n as usize;
     if source == 0 {
@@ -167,7 +167,18 @@ fn judge_row(
             errors: e,
         };
     }
-    let joint = meet_pieces(table, context, s, at, at + source, text, t, words, bytes, e);
+    let joint = meet_pieces(
+        table,
+        context,
+        s,
+        at,
+        at + source,
+        text,
+        t,
+        errors,
+        error_bytes,
+        e,
+    );
     if joint.at != at + source {
         return wrong_for(2);
     }
@@ -207,12 +218,12 @@ pub(crate) fn judge(
     rows: &[u32],
     row_bytes: &[u8],
     text: &[u8],
-    words: &[u32],
-    bytes: &[u8],
+    errors: &[u32],
+    error_bytes: &[u8],
 ) -> Verdict
     requires { ⌜ (length (now s) ≤ 65536) × (length (lent (now rows) (now «row_bytes»)) % 3 ≡ 0) ⌝ }
     ensures { λ r. ⌜ Verdicts (verdictOn (records (now (table .entry))) context (now (s .entry))
-        (lent (now (rows .entry)) (now («row_bytes» .entry))) (now (text .entry)) (lent (now (words .entry)) (now (bytes .entry)))) r ⌝ }
+        (lent (now (rows .entry)) (now («row_bytes» .entry))) (now (text .entry)) (lent (now (errors .entry)) (now («error_bytes» .entry)))) r ⌝ }
 {
     let numbers = count(rows, row_bytes);
     let mut next: usize = 0;
@@ -224,7 +235,20 @@ pub(crate) fn judge(
         let n = number_at(rows, row_bytes, next);
         let m = number_at(rows, row_bytes, next + 1);
         let k = number_at(rows, row_bytes, next + 2);
-        let judged = judge_row(table, context, s, at, text, t, words, bytes, e, n, m, k);
+        let judged = judge_row(
+            table,
+            context,
+            s,
+            at,
+            text,
+            t,
+            errors,
+            error_bytes,
+            e,
+            n,
+            m,
+            k,
+        );
         if judged.reason != 0 {
             return Verdict {
                 reason: judged.reason,
@@ -243,7 +267,7 @@ pub(crate) fn judge(
     if t != text.len() {
         return Verdict { reason: 5, row };
     }
-    if e != count(words, bytes) {
+    if e != count(errors, error_bytes) {
         return Verdict { reason: 5, row };
     }
     Verdict { reason: 0, row: 0 }

@@ -40,7 +40,22 @@ fn quiet_block(s: &[u8], at: usize, end: u8) -> bool
     odd == 0
 }
 
-// A place up to which the bytes from `from` on are quiet.
+// The place up to which the bytes from `from` on are quiet, byte by byte.
+fn quiet_bytes(s: &[u8], from: usize, end: u8) -> usize
+    requires { ⌜ from ≤ length (now s) ⌝ }
+    ensures { λ r. ⌜ (from ≤ r) × (r ≤ length (now (s .entry))) × spec.Quiet end (now (s .entry)) from (r - from) ⌝ }
+{
+    let mut at = from;
+    while at < s.len() {
+        if !quiet(s[at], end) {
+            return at;
+        }
+        at += 1;
+    }
+    at
+}
+
+// The same, in blocks as long as they are quiet.
 pub(crate) fn quiet_run(context: Context, s: &[u8], from: usize) -> usize
     requires { ⌜ from ≤ length (now s) ⌝ }
     ensures { λ r. ⌜ (from ≤ r) × (r ≤ length (now (s .entry))) × spec.Quiet (spec.endOf context) (now (s .entry)) from (r - from) ⌝ }
@@ -49,11 +64,11 @@ pub(crate) fn quiet_run(context: Context, s: &[u8], from: usize) -> usize
     let mut at = from;
     while 64 <= s.len() - at {
         if !quiet_block(s, at, end) {
-            return at;
+            return quiet_bytes(s, at, end);
         }
         at += 64;
     }
-    at
+    quiet_bytes(s, at, end)
 }
 
 // A byte that is a piece and its own text, without an error, and is the byte c too.

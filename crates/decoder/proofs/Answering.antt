@@ -10,20 +10,17 @@ use lib.ListN.{length, take}
 use lib.Seq.{sets, take-all}
 use borrow.Author.Tests.{lt-ltb, le-ltb}
 use Rattle.standard.specs.declared.Context.{Context}
-use Rattle.standard.specs.declared.characters.CharRead.{CharRead}
-use Rattle.standard.specs.declared.characters.CharRead.the-variants.{Char, Incomplete, Illformed, End}
 use Rattle.standard.specs.Notation.{if_then_else_}
-use Rattle.standard.specs.Answers.{done, ill-formed, nul, too-long, context-end, room-asked}
-use Rattle.standard.specs.Contexts.{ends, refused}
+use Rattle.standard.specs.Answers.{done, too-long, context-end, room-asked}
 use Rattle.standard.specs.Errors.{numbers}
 use Rattle.standard.specs.NameList.{builtin}
-use Rattle.standard.specs.Reading.{callsFor, answerTo, stopOf, covered, Reading, reading, decode}
+use Rattle.standard.specs.Reading.{stopOf, covered, Reading, reading, decode}
 use Rattle.standard.specs.Rooms.{Wrote}
 use Rattle.standard.proofs.Bounds.{text-fits, errors-fit}
 use Rattle.standard.proofs.Narrow.{builtin-narrow}
-use Rattle.standard.proofs.Choice.{if-both, test?}
+use Rattle.standard.proofs.Choice.{test?}
 use Rattle.standard.proofs.Puts.{numbers-length}
-use Rattle.standard.proofs.Stops.{stop-done, stop-cases}
+use Rattle.standard.proofs.Stops.{stop-done, OneOf, stops-with}
 use Rattle.decoder.specs.declared.whole.Decoded.{Decoded}
 use Rattle.decoder.specs.Whole.{decoded, answerOf, writtenOf, textNamed, placeNamed, decodedOf, Reads, Decodes}
 
@@ -31,21 +28,6 @@ use Rattle.decoder.specs.Whole.{decoded, answerOf, writtenOf, textNamed,
 abbrev pub writtenWith : Context → List ℕ → ℕ → Reading
 writtenWith context s answer =
     if eqb answer done || eqb answer context-end then decode builtin context (covered context s) else reading [] []
-
--- A source stops with one of four answers.
-abbrev pub OneOf : ℕ → Type 0
-OneOf a = (a ≡ done) ⊎ ((a ≡ ill-formed) ⊎ ((a ≡ nul) ⊎ (a ≡ context-end)))
-
-called : (context : Context) (r : CharRead) → OneOf (answerTo (callsFor context) r)
-called context (Char c n) =
-    if-both OneOf (refused context c) _ _ (λ t. inr (inr (inl refl)))
-    (λ f. if-both OneOf (ends context c) _ _ (λ t. inr (inr (inr refl))) (λ g. inl refl))
-called context (Incomplete n) = inr (inl refl)
-called context (Illformed n) = inr (inl refl)
-called context End = inl refl
-
-pub stops-with : (context : Context) (s : List ℕ) → OneOf (stopOf context s .answer)
-stops-with context s = stop-cases OneOf (callsFor context) (inl refl) (called context) 0 0 s
 
 module _ (context : Context) (s text errors : List ℕ) where
   -- By the answer's number alone.

@@ -16,59 +16,64 @@ use Rattle.standard.specs.Notation.{if_then_else_, nextIs}
 use Rattle.standard.specs.Utf8.{octets, readChar}
 use Rattle.standard.specs.Answers.{done}
 use Rattle.standard.specs.Names.{Name}
-use Rattle.standard.specs.Reading.{Reading, _⊕_}
+use Rattle.standard.specs.Reading.{Reading}
 use Rattle.standard.proofs.Back.{read-back}
 use Rattle.standard.proofs.Choice.{no-way, if-both, below?}
 use Rattle.standard.proofs.Every.{All}
-use Rattle.standard.proofs.Puts.{⊕-assoc}
 use Rattle.standard.proofs.RoundTrip.{encode-octets}
 use Rattle.standard.proofs.Utf8.{read-append, read-length, read-take}
-use Rattle.decoder.specs.Stream.{At, calledFor, Move, moveBy, Walked, stopsAt, onward, lastOf, isPart}
+use Rattle.decoder.specs.Stream.{At, calledFor, moveBy, Walked, stopsAt, onward, lastOf, isPart}
+use Rattle.decoder.proofs.AnyMachine.{Ran, ran, before, run, run-append}
 use Rattle.decoder.proofs.Bytes.{go}
 use Rattle.decoder.proofs.Looks.{Looks, ascii, wide, looks, AsciiOnly, equal-ascii}
 
--- A walk that goes on over t where it was not stopped.
-abbrev pub thenGo : List Name → Context → List ℕ → Walked → Walked
-thenGo names context t w = if eqb (w .answer) done then onward (w .gives) (go names context (w .stop) t) else w
+-- The machine of a stream, byte by byte: the bytes of the character so far, the answer that it calls for, its move, and what is released last.
+module _ (names : List Name) (context : Context) where
+  abbrev own : At → ℕ → List ℕ
+  own at b = at .part ++ b ∷ []
 
--- What is released before a walk is released before it goes on.
-onward-then : (names : List Name) (context : Context) (t : List ℕ) (before : Reading) (w : Walked)
-    → onward before (thenGo names context t w) ≡ thenGo names context t (onward before w)
-onward-then names context t before w = choice (eqb (w .answer) done)
-  where
-    rest : Walked
-    rest = go names context (w .stop) t
+  abbrev calls : At → ℕ → ℕ
+  calls at b = calledFor context (readChar (own at b))
 
-    choice : (u : Bool) → onward before (if u then onward (w .gives) rest else w) ≡ (if u then onward (before ⊕ w .gives) rest else onward before w)
-    choice true = ap (λ (r : Reading). stopsAt (rest .answer) r (rest .stop)) (sym (⊕-assoc before (w .gives) (rest .gives)))
-    choice false = refl
+  abbrev gives : At → ℕ → Reading
+  gives at b = moveBy names context at (readChar (own at b)) (own at b) .gives
 
--- A walk over two lists is a walk over the first that goes on over the second.
-pub go-append : (names : List Name) (context : Context) (at : At) (s t : List ℕ)
-    → go names context at (s ++ t) ≡ thenGo names context t (go names context at s)
-unfolding go
-go-append names context at [] t = refl
-go-append names context at (b ∷ s) t =
-    choice (eqb answer done) refl (go-append names context (m .to) s t)
-  where
-    own : List ℕ
-    own = at .part ++ b ∷ []
+  abbrev next : At → ℕ → At
+  next at b = moveBy names context at (readChar (own at b)) (own at b) .to
 
-    answer : ℕ
-    answer = calledFor context (readChar own)
+  abbrev last : At → ℕ → Reading
+  last at b = lastOf names context (calls at b) (at .st)
 
-    m : Move
-    m = moveBy names context at (readChar own) own
+  -- What a run comes to, as a walk.
+  abbrev walked : Ran At → Walked
+  walked r = stopsAt (r .answer) (r .gives) (r .stop)
 
-    stopped : Walked
-    stopped = stopsAt answer (lastOf names context answer (at .st)) at
+  -- A walk is a run of this machine.
+  go-run : (at : At) (s : List ℕ) → go names context at s ≡ walked (run calls gives next last at s)
+  unfolding go run
+  go-run at [] = refl
+  go-run at (b ∷ s) = choice (not (eqb (calls at b) done)) (go-run (next at b) s)
+    where
+      choice : (u : Bool) → go names context (next at b) s ≡ walked (run calls gives next last (next at b) s)
+          → (if u then stopsAt (calls at b) (last at b) at else onward (gives at b) (go names context (next at b) s))
+          ≡ walked (if u then ran (calls at b) (last at b) at else before (gives at b) (run calls gives next last (next at b) s))
+      choice true later = refl
+      choice false later = ap (onward (gives at b)) later
 
-    choice : (u : Bool) → eqb answer done ≡ u
-        → go names context (m .to) (s ++ t) ≡ thenGo names context t (go names context (m .to) s)
-        → (if not u then stopped else onward (m .gives) (go names context (m .to) (s ++ t)))
-        ≡ thenGo names context t (if not u then stopped else onward (m .gives) (go names context (m .to) s))
-    choice true e later = ap (onward (m .gives)) later ∙ onward-then names context t (m .gives) (go names context (m .to) s)
-    choice false e later = rw e
+  -- A walk that goes on over t where it was not stopped.
+  abbrev pub thenGo : List ℕ → Walked → Walked
+  thenGo t w = if eqb (w .answer) done then onward (w .gives) (go names context (w .stop) t) else w
+
+  -- So a walk over two lists is a walk over the first that goes on over the second.
+  pub go-append : (at : At) (s t : List ℕ) → go names context at (s ++ t) ≡ thenGo t (go names context at s)
+  go-append at s t =
+      let r = run calls gives next last at s in
+      go-run at (s ++ t) ∙ ap walked (run-append calls gives next last at s t) ∙ choice (eqb (r .answer) done) r ∙ ap (thenGo t) (sym (go-run at s))
+    where
+      choice : (u : Bool) (r : Ran At) → walked (if u then before (r .gives) (run calls gives next last (r .stop) t) else r)
+          ≡ (if u then onward (r .gives) (go names context (r .stop) t) else walked r)
+      choice true r = ap (onward (r .gives)) (sym (go-run (r .stop) t))
+      choice false r = refl
 
 module _ (names : List Name) (context : Context) (at : At) (s t : List ℕ) where
   -- So it goes on where the first list is all taken.

@@ -19,6 +19,7 @@ pub mod Room
 pub mod Padded
 pub mod Taking
 pub mod Releasing
+pub mod AnyMachine
 pub mod Layer
 pub mod HeldRule
 pub mod StreamReads

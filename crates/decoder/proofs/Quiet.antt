@@ -20,12 +20,9 @@ use Rattle.decoder.specs.Runs.{standing, plain, endOf, ordinary}
 -- A byte that stands for itself does so without an error.
 pub standing-is : (b : ℕ) → standing b ≡ true → Plain b
 standing-is b e =
-    ⊎-elim (λ f. ⊎-elim print (λ g. plain-blank b (inl (eqb-true b 0xA g))) (or-true (between 0x20 0x7E b && not (eqb b (code "&"))) (eqb b 0xA) f))
+    ⊎-elim (λ f. ⊎-elim (plain-printable b) (λ g. plain-blank b (inl (eqb-true b 0xA g)))
+    (or-true (between 0x20 0x7E b && not (eqb b (code "&"))) (eqb b 0xA) f))
     (λ g. plain-blank b (inr (eqb-true b 0x9 g))) (or-true (between 0x20 0x7E b && not (eqb b (code "&")) || eqb b 0xA) (eqb b 0x9) e)
-  where
-    print : between 0x20 0x7E b && not (eqb b (code "&")) ≡ true → Plain b
-    print f =
-        let w = and-true (between 0x20 0x7E b) (not (eqb b (code "&"))) f in plain-printable b (w .0) (not-true (eqb b (code "&")) (w .1))
 
 -- So does a plain byte.
 pub plain-is : (end b : ℕ) → plain end b ≡ true → Plain b

@@ -7,16 +7,17 @@ use mathlib.Core.Bool.{true, false, not, _||_, _&&_}
 use mathlib.Core.Logic.{_⊎_, inl, inr, ⊎-elim}
 use lib.Dec.{eqb}
 use lib.ListN.{length}
-use borrow.Author.Tests.{lt-ltb, le-ltb, eqb-true, eq-eqb}
+use borrow.Author.Tests.{le-ltb, eqb-true, eq-eqb}
 use Rattle.standard.specs.declared.Context.{Context}
 use Rattle.standard.specs.Notation.{if_then_else_}
 use Rattle.standard.specs.Answers.{done, ill-formed, nul, too-long, context-end, not-whole}
 use Rattle.standard.specs.NameList.{builtin}
 use Rattle.standard.specs.Reading.{Stop, stopOf, covered, readable}
 use Rattle.standard.proofs.Choice.{no-way, test?, below?, and-true}
+use Rattle.standard.proofs.Stops.{OneOf, stops-with}
 use Rattle.checker.specs.declared.checking.Checked.{Checked}
 use Rattle.checker.specs.Transcript.{right, Verdict, verdict, verdictOn, checked, checkedOf, words, checkedBytes}
-use Rattle.decoder.proofs.Answering.{OneOf, stops-with}
+use Rattle.checker.proofs.CheckLaws.{check-long, bytes-long, bytes-checked}
 use Rattle.demands.proofs.Lines.{Line, line}
 
 -- The answers of the check.
@@ -63,8 +64,7 @@ module _ (context : Context) (source rows text errors : List ℕ) where
 
   -- 3.
   says-long : 65536 < length source → all ≡ checked too-long (verdict right 0) 0
-  unfolding checkedOf
-  says-long h = rw (lt-ltb 65536 (length source) h)
+  says-long h = sym (check-long context source rows text errors h)
 
   -- 10.
   says-part : length source ≤ 65536 → (Whole → ⊥) → all ≡ checked not-whole (verdict right 0) 0
@@ -174,8 +174,7 @@ module _ (context : Context) (source rows text errors : List ℕ) (c : Checked) 
   Fours = (length rows % 4 ≡ 0) × (length errors % 4 ≡ 0)
 
   pub bytes-3 : 65536 < length source → c ≡ checked too-long (verdict right 0) 0
-  unfolding checkedBytes
-  bytes-3 h = is ∙ rw (lt-ltb 65536 (length source) h)
+  bytes-3 h = is ∙ sym (bytes-long context source rows text errors h)
 
   pub bytes-10 : length source ≤ 65536 → (Fours → ⊥) → c ≡ checked not-whole (verdict right 0) 0
   unfolding checkedBytes
@@ -190,6 +189,4 @@ module _ (context : Context) (source rows text errors : List ℕ) (c : Checked) 
           (eqb-true (length rows % 4) 0 (w .0), eqb-true (length errors % 4) 0 (w .1))
 
   pub bytes-as-words : length source ≤ 65536 → Fours → c ≡ checkedOf builtin context source (words rows) text (words errors)
-  unfolding checkedBytes
-  bytes-as-words short whole =
-      is ∙ rw (le-ltb 65536 (length source) short, eq-eqb (length rows % 4) 0 (whole .0), eq-eqb (length errors % 4) 0 (whole .1))
+  bytes-as-words short whole = is ∙ sym (bytes-checked context source rows text errors short (whole .0) (whole .1))

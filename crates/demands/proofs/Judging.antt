@@ -186,7 +186,7 @@ cuts-sized : {l m : Left} {rows : List Row} → Sized (l .pieces) → Cuts l row
 cuts-sized sized none = sized
 cuts-sized {l} sized (first {r} x c) = cuts-sized (ends-sized l r sized (x .ending) .1) c
 
--- Rows that cut are passed, and those after them are some-verdict by what is left.
+-- Rows that cut are passed, and those after them are judged by what is left.
 judge-cuts : {l m : Left} {rows : List Row} → Sized (l .pieces) → Cuts l rows m → (i : ℕ) (later : List Row)
     → judge i l (rows ++ later) ≡ judge (i + length rows) m later
 unfolding judge
@@ -217,7 +217,7 @@ rowOf (first-wrong w) = length (w .before)
 rowOf {rows} (remaining g) = length rows
 
 module _ (l : Left) (rows : List Row) (sized : Sized (l .pieces)) where
-  -- Rows that cut are some-verdict by whether something is left.
+  -- Rows that cut are judged by whether something is left.
   judge-end : {m : Left} → Cuts l rows m → judge 0 l rows ≡ (if spent m then verdict right 0 else verdict remains (length rows))
   unfolding judge
   judge-end {m} c =

@@ -17,3 +17,4 @@ pub mod Reaching
 pub mod Judging
 pub mod CheckAnswers
 pub mod Transcript
+pub mod CheckEdges

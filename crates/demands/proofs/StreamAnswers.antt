@@ -56,7 +56,7 @@ use Rattle.decoder.specs.Stream.{
   fedOf,
   Feeds,
 }
-use Rattle.decoder.proofs.Answering.{OneOf}
+use Rattle.standard.proofs.Stops.{OneOf}
 use Rattle.decoder.proofs.Returns.{feed-closed, feed-long, feed-stream-long, feed-room, end-closed, end-room, end-inside, end-done}
 use Rattle.decoder.proofs.Room.{lacks-so, room-so, room?, lacks-only, room-only}
 use Rattle.demands.proofs.Lines.{Line, LineOf}

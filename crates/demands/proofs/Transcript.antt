@@ -17,13 +17,12 @@ use Rattle.standard.specs.NameList.{builtin}
 use Rattle.standard.specs.Reading.{stopOf, covered, readable, pieces, Reading, decode}
 use Rattle.standard.proofs.Choice.{no-way}
 use Rattle.standard.proofs.Puts.{numbers-length}
-use Rattle.standard.proofs.Stops.{stop-place, stop-done}
+use Rattle.standard.proofs.Stops.{stop-place, stop-done, OneOf, stops-with}
 use Rattle.checker.specs.declared.checking.Checked.{Checked}
 use Rattle.checker.specs.Transcript.{rowsOf, Left, left, total, right, remains, Verdict, judge, checked, checkedOf}
 use Rattle.checker.proofs.RowLaws.{pieces-total}
 use Rattle.decoder.specs.declared.whole.Decoded.{Decoded}
 use Rattle.decoder.specs.Whole.{decoded, Decodes}
-use Rattle.decoder.proofs.Answering.{OneOf, stops-with}
 use Rattle.demands.proofs.Lines.{Line, LineOf}
 use Rattle.demands.proofs.Laws.{rooms-suffice}
 use Rattle.demands.proofs.RightRows.{none, Good, Remains, FirstWrong, column}
@@ -33,9 +32,9 @@ use Rattle.demands.proofs.Judging.{wrong-between, judge-says, some-verd
 use Rattle.demands.proofs.CheckAnswers as check-answers
 use Rattle.demands.proofs.WholeAnswers as whole-answers
 
--- Accepted: answer 0 with verdict 0.
+-- Accepted: answer 0 with verdict 0 and row 0.
 abbrev pub Accepted : Checked → Type 0
-Accepted c = (c .answer ≡ done) × (c .verdict ≡ right)
+Accepted c = (c .answer ≡ done) × (c .verdict ≡ right) × (c .row ≡ 0)
 
 -- What is there before the first row: all pieces of the covered source, all text and all errors.
 abbrev pub start : Context → (source text errors : List ℕ) → Left
@@ -116,7 +115,7 @@ module _ (context : Context) (source rows text errors : List ℕ) (c : Checked) 
       given : (length rows % 3 ≡ 0) × Good all (rowsOf rows) → Accepted c
       given (threes, g) =
           let pairs : length errors % 2 ≡ 0 = omega (arith, cuts-columns (g .cuts), ap length (g .spent .2)) in
-          (ap (λ (x : Checked). x .answer) (answered threes pairs), accepts threes pairs .given g)
+          (ap (λ (x : Checked). x .answer) (answered threes pairs), accepts threes pairs .given g, accepts threes pairs .so g)
 
   module _ (accepted : Accepted c) where
     -- On acceptance the three columns add up to covered length, text length and error count (two numbers an error).

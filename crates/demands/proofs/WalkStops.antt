@@ -55,7 +55,7 @@ use Rattle.decoder.specs.Stream.{
   feedOf,
 }
 use Rattle.decoder.specs.Feeding.{OpenAt, byteWalk}
-use Rattle.decoder.proofs.Answering.{OneOf}
+use Rattle.standard.proofs.Stops.{OneOf}
 use Rattle.decoder.proofs.Keeps.{step-keeps}
 use Rattle.decoder.proofs.Open.{store-back, open-again}
 use Rattle.decoder.proofs.Returns.{opened, opened-at, feed-walks}

@@ -15,7 +15,8 @@ use Rattle.standard.specs.Reading.{stopOf, covered, Reading, decode}
 use Rattle.standard.proofs.Choice.{below?}
 use Rattle.decoder.specs.declared.whole.Decoded.{Decoded}
 use Rattle.decoder.specs.Whole.{decoded, answerOf, Decodes}
-use Rattle.decoder.proofs.Answering.{answer-says, answer-is, answers-too-long, answers-asked, stops-so, OneOf, stops-with}
+use Rattle.decoder.proofs.Answering.{answer-says, answer-is, answers-too-long, answers-asked, stops-so}
+use Rattle.standard.proofs.Stops.{OneOf, stops-with}
 use Rattle.demands.proofs.Lines.{Line, line}
 
 module _ (context : Context) (s text errors : List ℕ) (r : Decoded) (text′ errors′ : List ℕ) (d : Decodes context s text errors r text′ errors′) where

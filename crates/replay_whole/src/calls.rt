@@ -1,5 +1,6 @@
 // Calls: a source is made, rooms are lent, and the answer and what was written become a line, put at `at`.
 ghost use Prim.Native.Nat.{_≤_};
+use crate::checks::replay_check;
 use crate::lines::Lines;
 use crate::lines::end_line;
 use crate::lines::put_byte;
@@ -12,22 +13,14 @@ use crate::marks::mark_bytes;
 use crate::marks::mark_numbers;
 use crate::marks::numbers_marked;
 use crate::records::Head;
+use crate::sources::least;
+use crate::sources::make_source;
 use decoder::Decoded;
 use decoder::decode_whole;
 use escaper::Escaped;
 use escaper::Mode;
 use escaper::escape;
 use standard::Context;
-
-// The lesser of two numbers.
-fn least(a: usize, b: usize) -> usize
-    ensures { λ r. ⌜ (r ≤ a) × (r ≤ b) ⌝ }
-{
-    if a < b {
-        return a;
-    }
-    b
-}
 
 // How much of a room was written, given what the answer counts: nothing but with 0 and 7.
 fn written(answer: u32, count: usize, room: usize) -> usize
@@ -110,23 +103,9 @@ fn replay_call(
         b'A' => replay_decode(Context::Attribute, source, text, errors, lines, at),
         b't' => replay_escape(Mode::Text, source, text, lines, at),
         b'a' => replay_escape(Mode::Attribute, source, text, lines, at),
+        b'C' => replay_check(Context::Text, source, text, errors, lines, at),
+        b'c' => replay_check(Context::Attribute, source, text, errors, lines, at),
         _ => at,
-    }
-}
-
-// The byte of a source at a place: its own come first, and then `x`.
-fn byte_at(own: &[u8], at: usize) -> u8 {
-    if at < own.len() {
-        return own[at];
-    }
-    b'x'
-}
-
-fn make_source(source: &mut [u8], own: &[u8]) {
-    let mut at: usize = 0;
-    while at < source.len() {
-        source[at] = byte_at(own, at);
-        at += 1;
     }
 }
 

@@ -26,7 +26,7 @@ pub(crate) fn put_byte(lines: &mut Lines, at: usize, byte: u8) -> usize {
     1
 }
 
-fn put_bytes(lines: &mut Lines, at: usize, bytes: &[u8]) -> usize {
+pub(crate) fn put_bytes(lines: &mut Lines, at: usize, bytes: &[u8]) -> usize {
     let mut end = at;
     let mut i: usize = 0;
     while i < bytes.len() {

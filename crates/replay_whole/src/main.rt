@@ -1,9 +1,12 @@
-// Replays calls of decode whole and escape: a list of records comes in, and a line for each goes out. tests/replay_whole.py has both forms.
+// Replays calls of decode whole, escape and check: a list of records comes in, and a line for each goes out. tests/replay_whole.py has both
+// forms.
 mod calls;
+mod checks;
 mod lines;
 mod marks;
 mod numbers;
 mod records;
+mod sources;
 
 use calls::replay_record;
 use libc::STDIN_FILENO;
@@ -32,9 +35,9 @@ fn replay(list: &[u8], source: &mut [u8], text: &mut [u8], errors: &mut [u32], l
 }
 
 fn main() {
-    let mut list = [0u8; 400000];
+    let mut list = [0u8; 640000];
     let length = io::read_full(STDIN_FILENO, &mut list);
-    let mut source = [0u8; 65600];
+    let mut source = [0u8; 66000];
     let mut text = [0u8; 400000];
     let mut errors = [0u32; 140000];
     let mut lines = [0u8; SIZE];

@@ -1,28 +1,28 @@
 -- Runs of ASCII bytes: each is a character of its own, so a run is read at once.
-use Prim.Native.Nat.{ℕ, zero, suc, _+_, _-_, _<_}
+use Prim.Native.Nat.{ℕ, suc, _+_, _-_, _<_}
 use Prim.Native.Char.{code}
-use mathlib.Core.Path.{_≡_, refl, sym, _∙_, ap, ap₂}
-use mathlib.Core.List.{List, [], _∷_, _++_}
+use mathlib.Core.Path.{_≡_, refl, _∙_, ap}
+use mathlib.Core.List.{List, [], _∷_}
 use mathlib.Core.Bool.{Bool, true, false, not, _||_, _&&_}
 use mathlib.Core.Logic.{_⊎_, inl, inr}
 use native.Mathlib.Omega.{arith}
-use lib.Dec.{ltb, eqb}
-use lib.ListN.{length, take, drop}
+use lib.Dec.{eqb}
+use lib.ListN.{length, drop}
 use borrow.Author.Tests.{lt-ltb, eq-eqb, eqb-true, not-true}
 use Rattle.standard.specs.declared.Context.{Context}
 use Rattle.standard.specs.declared.characters.CharRead.the-variants.{Char}
-use Rattle.standard.specs.Notation.{if_then_else_, between, front}
-use Rattle.standard.specs.Utf8.{leadOf, tails, afterLead, readChar}
+use Rattle.standard.specs.Notation.{between, front}
+use Rattle.standard.specs.Utf8.{tails, afterLead, readChar}
 use Rattle.standard.specs.Errors.{no-error, placed}
 use Rattle.standard.specs.Classes.{characterCode}
 use Rattle.standard.specs.Answers.{done}
 use Rattle.standard.specs.Names.{Name}
-use Rattle.standard.specs.Pieces.{Piece, piece, character, pieceAt}
+use Rattle.standard.specs.Pieces.{piece, pieceAt}
 use Rattle.standard.proofs.Choice.{and-true, between-true}
 use Rattle.standard.proofs.Computing.{computing}
 use Rattle.standard.proofs.Lists.{below, below-at}
 use Rattle.standard.proofs.Fronts.{front-induction}
-use Rattle.standard.specs.Reading.{answerTo, sizeOf, Stop, stops, stopFrom, piecesFrom, pieces, Reading, reading, _⊕_, joined}
+use Rattle.standard.specs.Reading.{stopFrom, piecesFrom, pieces, Reading, reading, _⊕_, joined}
 
 -- An ASCII byte is a character of its own.
 pub read-ascii : (b : ℕ) (s : List ℕ) → b < 0x80 → readChar (b ∷ s) ≡ Char b 1
@@ -62,12 +62,14 @@ unfolding computing below printable
 all-printable = refl
 
 -- So all of it but `&` stands for itself.
-pub plain-printable : (b : ℕ) → between 0x20 0x7E b ≡ true → eqb b (code "&") ≡ false → Plain b
+pub plain-printable : (b : ℕ) → between 0x20 0x7E b && not (eqb b (code "&")) ≡ true → Plain b
 unfolding printable
-plain-printable b e f =
-    let h = between-true 0x20 0x7E b e in
-    let w = and-true (not (eqb b (code "\r"))) (eqb (characterCode b) no-error) (rw e at (below-at 0x80 printable b all-printable (omega arith))) in
-    (omega arith, not-true (eqb b (code "\r")) (w .0), f, eqb-true (characterCode b) no-error (w .1))
+plain-printable b e =
+    let u = and-true (between 0x20 0x7E b) (not (eqb b (code "&"))) e in
+    let h = between-true 0x20 0x7E b (u .0) in
+    let w = and-true (not (eqb b (code "\r"))) (eqb (characterCode b) no-error)
+    (rw (u .0) at (below-at 0x80 printable b all-printable (omega arith))) in
+    (omega arith, not-true (eqb b (code "\r")) (w .0), not-true (eqb b (code "&")) (u .1), eqb-true (characterCode b) no-error (w .1))
 
 -- LF and tab do too.
 pub plain-blank : (b : ℕ) → (b ≡ 0xA) ⊎ (b ≡ 0x9) → Plain b

@@ -4,7 +4,7 @@ use Prim.Native.Char.{code}
 use mathlib.Core.Path.{_≡_, refl}
 use mathlib.Core.List.{List, [], _∷_, _++_}
 use mathlib.Core.Bool.{Bool, true, false, not, _||_, _&&_}
-use lib.Dec.{ltb, leb, eqb}
+use lib.Dec.{ltb, eqb}
 use lib.ListN.{length}
 use Rattle.standard.specs.Notation.{if_then_else_, every}
 use Rattle.standard.specs.Classes.{alphanumeric}

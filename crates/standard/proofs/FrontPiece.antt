@@ -18,7 +18,6 @@ use Rattle.standard.specs.Classes.{alphanumeric}
 use Rattle.standard.specs.Numbers.{isDigit, number, meaningOf}
 use Rattle.standard.specs.Names.{Name, longest}
 use Rattle.standard.specs.Pieces.{
-  Piece,
   piece,
   character,
   ampersand,

@@ -10,7 +10,7 @@ use Rattle.standard.specs.declared.characters.CharRead.{CharRead}
 use Rattle.standard.specs.declared.characters.CharRead.the-variants.{Char, Incomplete, Illformed, End}
 use Rattle.standard.specs.Utf8.{readChar}
 use Rattle.standard.specs.Answers.{done}
-use Rattle.standard.specs.Reading.{answerTo, sizeOf, Stop, stops, stopFrom}
+use Rattle.standard.specs.Reading.{answerTo, sizeOf, stops, stopFrom}
 use Rattle.standard.proofs.Stops.{stop-read}
 use Rattle.standard.proofs.Utf8.{read-length, incomplete-length, illformed-length, end-length}
 

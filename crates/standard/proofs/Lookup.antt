@@ -1,33 +1,18 @@
 -- Laws of names and of tables of names.
-use Prim.Native.Nat.{ℕ, zero, suc, _+_, _-_, _≤_, _<_}
-use mathlib.Core.Path.{_≡_, refl, sym, _∙_, ap}
+use Prim.Native.Nat.{ℕ, suc, _+_, _-_, _≤_, _<_}
+use mathlib.Core.Path.{_≡_, refl, ap}
 use mathlib.Core.List.{List, [], _∷_}
-use mathlib.Core.Bool.{Bool, true, false, _||_, _&&_, and-false}
+use mathlib.Core.Bool.{true, false, and-false}
 use native.Mathlib.Omega.{arith}
 use native.Mathlib.Numerals.{add-one}
 use native.Mathlib.Nat.{add-assoc}
-use lib.Dec.{ltb, leb, eqb}
+use lib.Dec.{ltb}
 use lib.ListN.{length, getD, take, drop, length-take, length-drop, drop-of-length-le}
 use lib.Seq.{drop-cons, drop-drop, getD-drop}
 use borrow.Author.Tests.{lt-ltb, le-ltb, le-leb, lt-leb, eq-eqb, ne-eqb}
 use Rattle.standard.proofs.Skips.{records-unfold}
 use Rattle.standard.specs.declared.names.Found.{Found}
-use Rattle.standard.specs.Names.{
-  Name,
-  name,
-  stands,
-  charRef,
-  nothing,
-  foundAs,
-  longer,
-  longestFrom,
-  longest,
-  begins,
-  word32,
-  recordAt,
-  recordsFrom,
-  records,
-}
+use Rattle.standard.specs.Names.{Name, stands, charRef, longer, longestFrom, begins, word32, recordAt, recordsFrom, records}
 
 -- A word and what it should stand at the front of, both from i on: the word is used up, the bytes are, they differ, they agree.
 module _ (w s : List ℕ) (i : ℕ) where

@@ -1,7 +1,7 @@
 -- A piece: it has at least one of the bytes that are there, no more errors than bytes, and with narrow names no longer a text.
-use Prim.Native.Nat.{ℕ, zero, suc, _+_, _-_, _≤_, _<_}
+use Prim.Native.Nat.{ℕ, suc, _+_, _-_, _≤_, _<_}
 use Prim.Native.Char.{code}
-use mathlib.Core.Path.{_≡_, refl, sym}
+use mathlib.Core.Path.{_≡_, refl}
 use mathlib.Core.List.{List, [], _∷_}
 use mathlib.Core.Bool.{Bool, true, false, _&&_, _||_}
 use native.Mathlib.Omega.{arith}
@@ -40,7 +40,7 @@ use Rattle.standard.specs.Pieces.{
   reference,
   pieceAt,
 }
-use Rattle.standard.proofs.Choice.{if-both, no-way}
+use Rattle.standard.proofs.Choice.{if-both}
 use Rattle.standard.proofs.Every.{All, every-all}
 use Rattle.standard.proofs.Fronts.{front-induction, front-length}
 use Rattle.standard.proofs.Nexts.{next-there}

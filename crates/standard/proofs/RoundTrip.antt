@@ -9,7 +9,7 @@ use native.Mathlib.Omega.{arith}
 use lib.Dec.{ltb, eqb}
 use lib.ListN.{length}
 use borrow.Author.Tests.{lt-ltb, le-ltb, eq-eqb, ne-eqb}
-use Rattle.standard.specs.Notation.{if_then_else_, between}
+use Rattle.standard.specs.Notation.{between}
 use Rattle.standard.specs.declared.characters.CharRead.the-variants.{Char}
 use Rattle.standard.specs.declared.characters.Lead.{Lead}
 use Rattle.standard.specs.Utf8.{leadOf, tails, afterLead, readChar, scalar, octets, encode, written}

@@ -2,6 +2,7 @@
 use Prim.Native.Nat.{ℕ, zero, suc, _+_, _-_, _≤_, _<_}
 use mathlib.Core.Path.{_≡_, refl, _∙_, ap, ap₂}
 use mathlib.Core.List.{List, [], _∷_}
+use mathlib.Core.Logic.{_⊎_, inl, inr}
 use native.Mathlib.Omega.{arith}
 use lib.Dec.{eqb}
 use lib.ListN.{length, drop}
@@ -11,7 +12,8 @@ use Rattle.standard.specs.declared.characters.CharRead.{CharRead}
 use Rattle.standard.specs.declared.characters.CharRead.the-variants.{Char, Incomplete, Illformed, End}
 use Rattle.standard.specs.Notation.{if_then_else_}
 use Rattle.standard.specs.Utf8.{readChar}
-use Rattle.standard.specs.Answers.{done}
+use Rattle.standard.specs.Answers.{done, ill-formed, nul, context-end}
+use Rattle.standard.specs.Contexts.{ends, refused}
 use Rattle.standard.specs.Reading.{callsFor, answerTo, sizeOf, Stop, stops, stopFrom, stopOf}
 use Rattle.standard.proofs.Choice.{if-both}
 use Rattle.standard.proofs.Utf8.{read-length, end-length}
@@ -84,3 +86,18 @@ stop-cases P calls none each zero place (b ∷ s) =
     let later = stop-cases P calls none each (sizeOf (readChar (b ∷ s)) - 1) (suc place) s in
     if-both (λ (r : Stop). P (r .answer)) (eqb (answerTo calls (readChar (b ∷ s))) done) _ _ (λ t. later) (λ f. each (readChar (b ∷ s)))
 stop-cases P calls none each (suc k) place (b ∷ s) = stop-cases P calls none each k (suc place) s
+
+-- A source stops with one of four answers.
+abbrev pub OneOf : ℕ → Type 0
+OneOf a = (a ≡ done) ⊎ ((a ≡ ill-formed) ⊎ ((a ≡ nul) ⊎ (a ≡ context-end)))
+
+called : (context : Context) (r : CharRead) → OneOf (answerTo (callsFor context) r)
+called context (Char c n) =
+    if-both OneOf (refused context c) _ _ (λ t. inr (inr (inl refl)))
+    (λ f. if-both OneOf (ends context c) _ _ (λ t. inr (inr (inr refl))) (λ g. inl refl))
+called context (Incomplete n) = inr (inl refl)
+called context (Illformed n) = inr (inl refl)
+called context End = inl refl
+
+pub stops-with : (context : Context) (s : List ℕ) → OneOf (stopOf context s .answer)
+stops-with context s = stop-cases OneOf (callsFor context) (inl refl) (called context) 0 0 s

@@ -16,7 +16,7 @@ returns : tie.Need-returns
 returns c =
     let c8 = c .before .before .before .before .before .before .before .before in
     let a = c8 .args in c .refused .ensures
-    ∙ check-long (a .context) (a .source .now) (lent (a .rows .now) (a .row-bytes .now)) (a .text .now) (lent (a .words .now) (a .bytes .now))
+    ∙ check-long (a .context) (a .source .now) (lent (a .rows .now) (a .row-bytes .now)) (a .text .now) (lent (a .errors .now) (a .error-bytes .now))
     (c .before .if1 .taken)
 
 count-requires : tie.Need-count-requires
@@ -30,7 +30,7 @@ returns-2 c =
     let c10 = c .before .before .before .before .before .before .before .before .before .before in
     let a = c10 .args in
     c .refused2 .ensures ∙ check-rows (a .context) (a .source .now) (lent (a .rows .now) (a .row-bytes .now)) (a .text .now)
-    (lent (a .words .now) (a .bytes .now)) (omega arith) (rw (c .before .before .count .ensures) at (c .before .if2 .taken))
+    (lent (a .errors .now) (a .error-bytes .now)) (omega arith) (rw (c .before .before .count .ensures) at (c .before .if2 .taken))
 
 count-requires-2 : tie.Need-count-requires-2
 count-requires-2 c κs = search needs
@@ -41,11 +41,13 @@ refused-requires-3 c κs = search needs
 returns-3 : tie.Need-returns-3
 returns-3 c =
     let c3 = c .before .before .before in
+    let c3 = c3 in
     let c4 = c3 .before in
     let c12 = c4 .before .before .before .before .before .before .before .before in
     let a = c12 .args in
     c .refused3 .ensures
-    ∙ check-errors (a .context) (a .source .now) (lent (a .rows .now) (a .row-bytes .now)) (a .text .now) (lent (a .words .now) (a .bytes .now))
+    ∙ check-errors (a .context) (a .source .now) (lent (a .rows .now) (a .row-bytes .now)) (a .text .now)
+    (lent (a .errors .now) (a .error-bytes .now))
     (omega arith) (rw (c4 .count .ensures) at (c3 .if2 .left)) (rw (c .before .before .count2 .ensures) at (c .before .if3 .taken))
 
 find-fault-requires : tie.Need-find-fault-requires
@@ -68,7 +70,7 @@ returns-4 c =
     let c14 = c6 .before .before .before .before .before .before .before .before in
     let a = c14 .args in
     c .refused4 .ensures
-    ∙ check-fault (a .context) (a .source .now) (lent (a .rows .now) (a .row-bytes .now)) (a .text .now) (lent (a .words .now) (a .bytes .now))
+    ∙ check-fault (a .context) (a .source .now) (lent (a .rows .now) (a .row-bytes .now)) (a .text .now) (lent (a .errors .now) (a .error-bytes .now))
     (omega arith) (rw (c6 .count .ensures) at (c5 .if2 .left)) (rw (c4 .count2 .ensures) at (c3 .if3 .left))
     (c .before .before .find-fault .ensures .0) (c .before .before .find-fault .ensures .1) (not-true _ (c .before .if4 .taken))
 
@@ -104,7 +106,7 @@ returns-5 c =
     let c9 = c8 .before in
     let c17 = c9 .before .before .before .before .before .before .before .before in
     let a = c17 .args in
-    check-judged (a .context) (a .source .now) (lent (a .rows .now) (a .row-bytes .now)) (a .text .now) (lent (a .words .now) (a .bytes .now))
+    check-judged (a .context) (a .source .now) (lent (a .rows .now) (a .row-bytes .now)) (a .text .now) (lent (a .errors .now) (a .error-bytes .now))
     (omega arith) (rw (c9 .count .ensures) at (c8 .if2 .left)) (rw (c7 .count2 .ensures) at (c6 .if3 .left))
     (c5 .find-fault .ensures .0) (c5 .find-fault .ensures .1) (not-false _ (c4 .if4 .left)) (c3 .builtin-names .ensures) (c .judge .ensures)
 

@@ -1,6 +1,4 @@
 -- digit_of is what digitOf says, test by test.
-use mathlib.Core.Path.{refl}
-use native.Mathlib.Omega.{arith}
 use borrow.Author.Needs.{needs}
 use Rattle.standard.specs.Numbers.{digitOf}
 use Rattle.standard.proofs.Choice.{between-true}

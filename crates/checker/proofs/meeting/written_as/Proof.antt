@@ -1,4 +1,3 @@
-use borrow.Author.Needs.{needs}
 use Rattle.checker.proofs.meeting.written_as.Statement.{statement}
 use Rattle.checker.proofs.meeting.written_as.Tie as tie
 

@@ -1,19 +1,16 @@
 use native.Mathlib.Omega.{arith}
 use borrow.Author.Needs.{needs}
 use borrow.Author.Tests.{not-true, not-false}
-use Rattle.standard.specs.Names.{records}
-use Rattle.checker.specs.Meeting.{lent}
 use Rattle.checker.proofs.RowLaws.{
-  row-empty,
-  row-past,
-  row-plain,
-  row-inside,
-  row-text,
-  row-text-count,
-  row-errors,
-  row-errors-count,
-  row-right,
-  row-wrong,
+  judged-empty,
+  judged-past,
+  judged-plain,
+  judged-inside,
+  judged-text,
+  judged-text-count,
+  judged-errors,
+  judged-errors-count,
+  judged-right,
 }
 use Rattle.checker.proofs.rows.judge_row.Statement.{statement}
 use Rattle.checker.proofs.rows.judge_row.Tie as tie
@@ -23,12 +20,8 @@ wrong-for-requires c κs = search needs
 
 returns : tie.Need-returns
 returns c =
-    let c7 = c .before .before .before .before .before .before .before in
-    let a = c7 .args in
-    row-wrong (records (a .table .now)) (a .context) (a .s .now) (a .at) (a .text .now) (a .t) (lent (a .words .now) (a .bytes .now)) (a .e) (a .n)
-    (a .m) (a .k) (c .wrong-for .ensures) (omega arith)
-    (row-empty (records (a .table .now)) (a .context) (a .s .now) (a .at) (a .text .now) (a .t) (lent (a .words .now) (a .bytes .now)) (a .e) (a .n)
-    (a .m) (a .k) (omega arith))
+    judged-empty (omega arith)
+    (c .wrong-for .ensures)
 
 sub-if2 : tie.Need-sub-if2
 sub-if2 c = search needs
@@ -38,12 +31,8 @@ wrong-for-requires-2 c κs = search needs
 
 returns-2 : tie.Need-returns-2
 returns-2 c =
-    let c8 = c .before .before .before .before .before .before .before .before in
-    let a = c8 .args in
-    row-wrong (records (a .table .now)) (a .context) (a .s .now) (a .at) (a .text .now) (a .t) (lent (a .words .now) (a .bytes .now)) (a .e) (a .n)
-    (a .m) (a .k) (c .wrong-for2 .ensures) (omega arith)
-    (row-past (records (a .table .now)) (a .context) (a .s .now) (a .at) (a .text .now) (a .t) (lent (a .words .now) (a .bytes .now)) (a .e) (a .n)
-    (a .m) (a .k) (λ z. omega arith) (omega arith))
+    judged-past (λ z. omega arith) (omega arith)
+    (c .wrong-for2 .ensures)
 
 plain-row-requires : tie.Need-plain-row-requires
 plain-row-requires c κs = (omega arith, c .before .before .before .before .before .before .before .pre .2)
@@ -58,9 +47,7 @@ returns-3 : tie.Need-returns-3
 returns-3 c =
     let c3 = c .before .before .before in
     let c9 = c3 .before .before .before .before .before .before in
-    let a = c9 .args in
-    row-plain (records (a .table .now)) (a .context) (a .s .now) (a .at) (a .text .now) (a .t) (lent (a .words .now) (a .bytes .now)) (a .e) (a .n)
-    (a .m) (a .k) (λ z. omega (arith, c3 .if1 .left)) (omega (arith, c .before .before .if2 .left)) (c9 .pre .0) (c9 .pre .3)
+    judged-plain (λ z. omega (arith, c3 .if1 .left)) (omega (arith, c .before .before .if2 .left)) (c9 .pre .0) (c9 .pre .3)
     (c .before .plain-row .ensures (c .if3 .taken))
 
 add-meet-pieces : tie.Need-add-meet-pieces
@@ -80,13 +67,9 @@ returns-4 c =
     let c3 = c .before .before .before in
     let c6 = c3 .before .before .before in
     let c7 = c6 .before in
-    let c13 = c7 .before .before .before .before .before .before in
-    let a = c13 .args in
-    row-wrong (records (a .table .now)) (a .context) (a .s .now) (a .at) (a .text .now) (a .t) (lent (a .words .now) (a .bytes .now)) (a .e) (a .n)
-    (a .m) (a .k) (c .wrong-for3 .ensures) (omega arith)
-    (row-inside (records (a .table .now)) (a .context) (a .s .now) (a .at) (a .text .now) (a .t) (lent (a .words .now) (a .bytes .now)) (a .e) (a .n)
-    (a .m) (a .k) (λ z. omega (arith, c7 .if1 .left)) (omega (arith, c6 .if2 .left)) (c3 .meet-pieces .ensures)
-    (λ z. omega (arith, c .before .if4 .taken)))
+    judged-inside (λ z. omega (arith, c7 .if1 .left)) (omega (arith, c6 .if2 .left)) (c3 .meet-pieces .ensures)
+    (λ z. omega (arith, c .before .if4 .taken))
+    (c .wrong-for3 .ensures)
 
 wrong-for-requires-4 : tie.Need-wrong-for-requires-4
 wrong-for-requires-4 c κs = search needs
@@ -97,13 +80,9 @@ returns-5 c =
     let c6 = c4 .before .before in
     let c9 = c6 .before .before .before in
     let c10 = c9 .before in
-    let c16 = c10 .before .before .before .before .before .before in
-    let a = c16 .args in
-    row-wrong (records (a .table .now)) (a .context) (a .s .now) (a .at) (a .text .now) (a .t) (lent (a .words .now) (a .bytes .now)) (a .e) (a .n)
-    (a .m) (a .k) (c .wrong-for4 .ensures) (omega arith)
-    (row-text (records (a .table .now)) (a .context) (a .s .now) (a .at) (a .text .now) (a .t) (lent (a .words .now) (a .bytes .now)) (a .e) (a .n)
-    (a .m) (a .k) (λ z. omega (arith, c10 .if1 .left)) (omega (arith, c9 .if2 .left)) (c6 .meet-pieces .ensures) (omega (arith, c4 .if4 .left))
-    (not-true _ (c .before .if5 .taken)))
+    judged-text (λ z. omega (arith, c10 .if1 .left)) (omega (arith, c9 .if2 .left)) (c6 .meet-pieces .ensures) (omega (arith, c4 .if4 .left))
+    (not-true _ (c .before .if5 .taken))
+    (c .wrong-for4 .ensures)
 
 sub-if6 : tie.Need-sub-if6
 sub-if6 c =
@@ -120,13 +99,9 @@ returns-6 c =
     let c8 = c6 .before .before in
     let c11 = c8 .before .before .before in
     let c12 = c11 .before in
-    let c18 = c12 .before .before .before .before .before .before in
-    let a = c18 .args in
-    row-wrong (records (a .table .now)) (a .context) (a .s .now) (a .at) (a .text .now) (a .t) (lent (a .words .now) (a .bytes .now)) (a .e) (a .n)
-    (a .m) (a .k) (c .wrong-for5 .ensures) (omega arith)
-    (row-text-count (records (a .table .now)) (a .context) (a .s .now) (a .at) (a .text .now) (a .t) (lent (a .words .now) (a .bytes .now)) (a .e)
-    (a .n) (a .m) (a .k) (λ z. omega (arith, c12 .if1 .left)) (omega (arith, c11 .if2 .left)) (c8 .meet-pieces .ensures)
-    (omega (arith, c6 .if4 .left)) (not-false _ (c3 .if5 .left)) (λ z. omega (arith, c .before .if6 .taken)))
+    judged-text-count (λ z. omega (arith, c12 .if1 .left)) (omega (arith, c11 .if2 .left)) (c8 .meet-pieces .ensures) (omega (arith, c6 .if4 .left))
+    (not-false _ (c3 .if5 .left)) (λ z. omega (arith, c .before .if6 .taken))
+    (c .wrong-for5 .ensures)
 
 wrong-for-requires-6 : tie.Need-wrong-for-requires-6
 wrong-for-requires-6 c κs = search needs
@@ -139,13 +114,9 @@ returns-7 c =
     let c11 = c9 .before .before in
     let c14 = c11 .before .before .before in
     let c15 = c14 .before in
-    let c21 = c15 .before .before .before .before .before .before in
-    let a = c21 .args in
-    row-wrong (records (a .table .now)) (a .context) (a .s .now) (a .at) (a .text .now) (a .t) (lent (a .words .now) (a .bytes .now)) (a .e) (a .n)
-    (a .m) (a .k) (c .wrong-for6 .ensures) (omega arith)
-    (row-errors (records (a .table .now)) (a .context) (a .s .now) (a .at) (a .text .now) (a .t) (lent (a .words .now) (a .bytes .now)) (a .e) (a .n)
-    (a .m) (a .k) (λ z. omega (arith, c15 .if1 .left)) (omega (arith, c14 .if2 .left)) (c11 .meet-pieces .ensures) (omega (arith, c9 .if4 .left))
-    (not-false _ (c6 .if5 .left)) (omega (arith, c4 .if6 .left)) (not-true _ (c .before .if7 .taken)))
+    judged-errors (λ z. omega (arith, c15 .if1 .left)) (omega (arith, c14 .if2 .left)) (c11 .meet-pieces .ensures) (omega (arith, c9 .if4 .left))
+    (not-false _ (c6 .if5 .left)) (omega (arith, c4 .if6 .left)) (not-true _ (c .before .if7 .taken))
+    (c .wrong-for6 .ensures)
 
 sub-if8 : tie.Need-sub-if8
 sub-if8 c =
@@ -170,14 +141,10 @@ returns-8 c =
     let c13 = c11 .before .before in
     let c16 = c13 .before .before .before in
     let c17 = c16 .before in
-    let c23 = c17 .before .before .before .before .before .before in
-    let a = c23 .args in
-    row-wrong (records (a .table .now)) (a .context) (a .s .now) (a .at) (a .text .now) (a .t) (lent (a .words .now) (a .bytes .now)) (a .e) (a .n)
-    (a .m) (a .k) (c .wrong-for7 .ensures) (omega arith)
-    (row-errors-count (records (a .table .now)) (a .context) (a .s .now) (a .at) (a .text .now) (a .t) (lent (a .words .now) (a .bytes .now)) (a .e)
-    (a .n) (a .m) (a .k) (λ z. omega (arith, c17 .if1 .left)) (omega (arith, c16 .if2 .left)) (c13 .meet-pieces .ensures)
+    judged-errors-count (λ z. omega (arith, c17 .if1 .left)) (omega (arith, c16 .if2 .left)) (c13 .meet-pieces .ensures)
     (omega (arith, c11 .if4 .left)) (not-false _ (c8 .if5 .left)) (omega (arith, c6 .if6 .left)) (not-false _ (c3 .if7 .left))
-    (λ z. omega (arith, c .before .if8 .taken)))
+    (λ z. omega (arith, c .before .if8 .taken))
+    (c .wrong-for7 .ensures)
 
 returns-9 : tie.Need-returns-9
 returns-9 c =
@@ -188,11 +155,9 @@ returns-9 c =
     let c15 = c12 .before .before .before in
     let c16 = c15 .before in
     let c22 = c16 .before .before .before .before .before .before in
-    let a = c22 .args in
-    row-right (records (a .table .now)) (a .context) (a .s .now) (a .at) (a .text .now) (a .t) (lent (a .words .now) (a .bytes .now)) (a .e) (a .n)
-    (a .m) (a .k) (λ z. omega (arith, c16 .if1 .left)) (omega (arith, c15 .if2 .left)) (c12 .meet-pieces .ensures)
-    (omega (arith, c10 .if4 .left)) (not-false _ (c7 .if5 .left)) (omega (arith, c5 .if6 .left)) (not-false _ (c .before .before .if7 .left))
-    (omega (arith, c .if8 .left)) (c22 .pre .0)
+    judged-right (λ z. omega (arith, c16 .if1 .left)) (omega (arith, c15 .if2 .left)) (c12 .meet-pieces .ensures) (omega (arith, c10 .if4 .left))
+    (not-false _ (c7 .if5 .left)) (omega (arith, c5 .if6 .left)) (not-false _ (c .before .before .if7 .left)) (omega (arith, c .if8 .left))
+    (c22 .pre .0)
 
 pub judge-row-spec : {M : Type 1} → statement M
 judge-row-spec = tie.close

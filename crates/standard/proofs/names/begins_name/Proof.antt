@@ -1,6 +1,6 @@
 -- The invariant: some name begins so exactly if one of the records still to come does.
-use Prim.Native.Nat.{_≤_, _+_, _-_}
-use mathlib.Core.Path.{_≡_, refl, sym, _∙_, ap}
+use Prim.Native.Nat.{_≤_, _-_}
+use mathlib.Core.Path.{_≡_, refl, sym, _∙_}
 use native.Mathlib.Omega.{arith}
 use borrow.Author.Needs.{needs}
 use lib.ListN.{length, drop}

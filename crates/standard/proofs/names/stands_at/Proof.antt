@@ -1,5 +1,5 @@
 -- The invariant: whether the word stands there is whether its rest stands at the front of the rest.
-use Prim.Native.Nat.{_≤_, _+_, _-_}
+use Prim.Native.Nat.{_≤_, _-_}
 use mathlib.Core.Path.{_≡_, refl, _∙_, sym}
 use native.Mathlib.Omega.{arith}
 use lib.ListN.{length, drop}

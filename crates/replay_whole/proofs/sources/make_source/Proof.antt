@@ -3,8 +3,8 @@ use Prim.Native.Nat.{_-_}
 use mathlib.Core.Path.{_≡_}
 use lib.ListN.{length}
 use borrow.Author.Needs.{needs}
-use Rattle.replay_whole.proofs.calls.make_source.Statement.{statement}
-use Rattle.replay_whole.proofs.calls.make_source.Tie as tie
+use Rattle.replay_whole.proofs.sources.make_source.Statement.{statement}
+use Rattle.replay_whole.proofs.sources.make_source.Tie as tie
 
 abbrev Inv-loop : tie.InvT-loop
 Inv-loop source₀ own at₀ source at = length source ≡ length source₀
