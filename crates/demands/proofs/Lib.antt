@@ -18,3 +18,4 @@ pub mod Judging
 pub mod CheckAnswers
 pub mod Transcript
 pub mod CheckEdges
+pub mod Program

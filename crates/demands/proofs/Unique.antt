@@ -20,6 +20,8 @@ use Rattle.checker.proofs.check.Kinds as check-kinds
 use Rattle.checker.proofs.check.Reads as check-reads
 use Rattle.checker.proofs.check_bytes.Kinds as check-bytes-kinds
 use Rattle.checker.proofs.check_bytes.Reads as check-bytes-reads
+use Rattle.reporting.proofs.report.Kinds as report-kinds
+use Rattle.reporting.proofs.report.Reads as report-reads
 use Rattle.rooms.proofs.copy.Kinds as copy-kinds
 use Rattle.rooms.proofs.copy.Reads as copy-reads
 use Rattle.standard.proofs.characters.read_char.Kinds as read-char-kinds
@@ -95,3 +97,10 @@ end κs a x y e f p q = (
 -- The answer, and the room.
 pub escape : FixesLent 2 escape-kinds.ps escape-kinds.r (List ℕ) (λ κs e. e .1 .1 .0 .now) escape-reads.Post
 escape κs a x y e f p q = (only (p .answered) (q .answered), only (p .texts) (q .texts))
+
+-- The length of the report, its room and the error room.
+pub report : FixesLent 3 report-kinds.ps report-kinds.r (List ℕ × List ℕ) (λ κs e. (e .1 .0 .now, e .1 .1 .0 .now)) report-reads.Post
+report κs a x y e f p q = (
+  only (p .written .next-is) (q .written .next-is),
+  λ i. (only (p .written .new-is) (q .written .new-is) i, only (p .numbers-of) (q .numbers-of) i),
+)
