@@ -1,23 +1,26 @@
 -- The verdict on the rows, one after the other.
-use Prim.Native.Nat.{ℕ, suc, _+_, _-_, _%_, _≤_, _<_}
+use Prim.Native.Nat.{ℕ, zero, suc, _+_, _-_, _*_, _%_, _≤_, _<_}
 use mathlib.Core.Path.{_≡_, refl, sym, _∙_, ap}
 use mathlib.Core.List.{List, [], _∷_}
-use mathlib.Core.Bool.{false, _&&_, and-false}
-use mathlib.Core.Logic.{_≢_}
+use mathlib.Core.Bool.{true, false, _&&_, and-false}
+use mathlib.Core.Logic.{_≢_, _⊎_, inl, inr, ⊎-elim}
 use native.Mathlib.Omega.{arith}
 use native.Mathlib.Numerals.{add-one}
 use lib.Dec.{eqb}
 use lib.ListN.{length, getD, drop, length-drop, drop-of-length-le}
 use lib.Seq.{drop-cons}
-use borrow.Author.Tests.{ne-eqb}
+use borrow.Author.Tests.{eqb-true, eqb-false, ne-eqb}
 use Rattle.standard.specs.declared.Context.{Context}
 use Rattle.standard.specs.Names.{Name}
 use Rattle.standard.specs.Reading.{piecesFrom, pieces}
 use Rattle.standard.proofs.Bounds.{pieces-unfold}
+use Rattle.standard.proofs.Choice.{below?, and-true, test?}
 use Rattle.checker.specs.declared.rows.Judged.{Judged}
 use Rattle.checker.specs.declared.rows.Verdict as code
 use Rattle.checker.specs.Transcript.{row, rowsOf, Left, right, remains, spent, Verdict, verdict, judge, verdictOn}
-use Rattle.checker.specs.Meeting.{leftAt, Judges, Verdicts}
+use Rattle.checker.specs.Runs.{Alike, PlainRow, unitRow, UnitRows, PlainRows}
+use Rattle.checker.specs.Meeting.{lent, leftAt, Judges, Verdicts, Ends}
+use Rattle.checker.proofs.RowLaws.{judged-plain}
 
 -- The first of the rows that are left.
 rows-next : (rows : List ℕ) (next : ℕ) → next + 3 ≤ length rows
@@ -148,3 +151,87 @@ module _ {names : List Name} {context : Context} {s rows text errors : List ℕ}
             let errors-there : length errors ≤ e = omega arith in
             verdicts right 0
             (last ∙ rw (drop-of-length-le s source-there, drop-of-length-le text text-there, drop-of-length-le errors errors-there))
+
+-- The numbers of a row of one byte.
+unit-is : (n m k : ℕ) → unitRow n m k ≡ true → (n ≡ 1) × (m ≡ 1) × (k ≡ 0)
+unit-is n m k e =
+    let w = and-true (eqb n 1 && eqb m 1) (eqb k 0) e in
+    let v = and-true (eqb n 1) (eqb m 1) (w .0) in (eqb-true n 1 (v .0), eqb-true m 1 (v .1), eqb-true k 0 (w .1))
+
+-- Rows of one byte each that the text has too are right.
+pub rows-plain : {names : List Name} {context : Context} {s rows text errors : List ℕ} {next i at t e : ℕ}
+    → RowByRow names context s rows text errors next i at t e → (n : ℕ) → PlainRows rows next s at text t n
+    → RowByRow names context s rows text errors (next + 3 * n) (i + n) (at + n) (t + n) e
+rows-plain {names} {context} {s} {rows} {text} {errors} {next} {i} {at} {t} {e} w n p =
+    go n (p .rows-there) (p .source-there) (p .text-there) (p .units) (p .same)
+  where
+    go : (n : ℕ) → next + 3 * n ≤ length rows → at + n ≤ length s → t + n ≤ length text → UnitRows rows next n → Alike s at text t n
+        → RowByRow names context s rows text errors (next + 3 * n) (i + n) (at + n) (t + n) e
+    go zero h k l units same =
+        let a : next + 3 * 0 ≡ next = omega arith in
+        let b : i + 0 ≡ i = omega arith in
+        let c : at + 0 ≡ at = omega arith in
+        let d : t + 0 ≡ t = omega arith in rw (a, b, c, d) w
+    go (suc n) h k l units same =
+        let rest = go n (omega arith) (omega arith) (omega arith) (λ j m. units j (omega arith)) (λ j m. same j (omega arith)) in
+        let u = unit-is (getD rows (next + 3 * n) 0) (getD rows (next + 3 * n + 1) 0) (getD rows (next + 3 * n + 2) 0) (units n (omega arith)) in
+        let one : PlainRow s (at + n) 1 text (t + n) 1 0 = record {
+          bytes = refl;
+          no-errors = refl;
+          there = omega arith;
+          same = λ j m. let x : at + n ≡ at + n + j = omega arith in let y : t + n ≡ t + n + j = omega arith in rw (x, y) at (same n (omega arith));
+        } in
+        let judges = judged-plain (λ z. omega arith) (omega arith) (omega arith) (rest .errors-there) one in
+        let a : next + 3 * n + 3 ≡ next + 3 * suc n = omega arith in
+        let b : i + n + 1 ≡ i + suc n = omega arith in
+        let c : at + n + 1 ≡ at + suc n = omega arith in
+        let d : t + n + 1 ≡ t + suc n = omega arith in
+        rw (a, b, c, d) at (row-on rest (omega arith) (sym (u .0)) (sym (u .1)) (sym (u .2)) judges refl)
+
+-- The same where rows are lent as words or as bytes, and there may be none.
+pub rows-plain-lent : {names : List Name} {context : Context} {s text errors : List ℕ} {next i at t e : ℕ} (numbers bytes : List ℕ)
+    → RowByRow names context s (lent numbers bytes) text errors next i at t e → (n : ℕ) → (n ≡ 0) ⊎ PlainRows numbers next s at text t n
+    → RowByRow names context s (lent numbers bytes) text errors (next + 3 * n) (i + n) (at + n) (t + n) e
+rows-plain-lent {names} {context} {s} {text} {errors} {next} {i} {at} {t} {e} numbers bytes w n = ⊎-elim none some
+  where
+    none : n ≡ 0 → RowByRow names context s (lent numbers bytes) text errors (next + 3 * n) (i + n) (at + n) (t + n) e
+    none z = rows-plain w n (record {
+      rows-there = omega (arith, w .next-there);
+      source-there = omega (arith, w .at-there);
+      text-there = omega (arith, w .text-there);
+      units = λ j m. absurd (omega arith);
+      same = λ j m. absurd (omega arith);
+    })
+
+    words : 0 < length numbers → lent numbers bytes ≡ numbers
+    words h = rw (ne-eqb (length numbers) 0 (λ z. omega arith))
+
+    some : PlainRows numbers next s at text t n → RowByRow names context s (lent numbers bytes) text errors (next + 3 * n) (i + n) (at + n) (t + n) e
+    some p =
+        ⊎-elim (λ (h : 0 < length numbers). rows-plain w n (rw (words h) p))
+        (λ (h : length numbers ≤ 0). none (omega (arith, p .rows-there))) (below? 0 (length numbers))
+
+-- A verdict that is known by its parts.
+verdicts-by : {v : Verdict} {r : code.Verdict} {reason at-row : ℕ} → Verdicts v (coded reason at-row) → (r .reason ≡ reason) × (r .row ≡ at-row)
+    → Verdicts v r
+verdicts-by w e = record { reason-is = e .0 ∙ w .reason-is; row-is = e .1 ∙ w .row-is }
+
+-- After the last row, the verdict is by whether something remains.
+pub ended : {names : List Name} {context : Context} {s rows text errors : List ℕ} {next i at t e : ℕ} {r : code.Verdict}
+    → RowByRow names context s rows text errors next i at t e → length rows ≤ next → Ends s at text t errors e i r
+    → Verdicts (verdictOn names context s rows text errors) r
+ended {names} {context} {s} {rows} {text} {errors} {next} {i} {at} {t} {e} {r} w over d =
+    ⊎-elim (λ x. source (eqb-true at (length s) x))
+    (λ f. let unlike = eqb-false at (length s) f in verdicts-by (source-remains w over unlike) (d .some (inl unlike))) (test? (eqb at (length s)))
+  where
+    numbers : at ≡ length s → t ≡ length text → Verdicts (verdictOn names context s rows text errors) r
+    numbers x y =
+        ⊎-elim (λ k. let z = eqb-true e (length errors) k in verdicts-by (nothing-remains w over x y z) (d .all x y z))
+        (λ f. let unlike = eqb-false e (length errors) f in verdicts-by (errors-remain w over x y unlike) (d .some (inr (inr unlike))))
+        (test? (eqb e (length errors)))
+
+    source : at ≡ length s → Verdicts (verdictOn names context s rows text errors) r
+    source x =
+        ⊎-elim (λ k. numbers x (eqb-true t (length text) k))
+        (λ f. let unlike = eqb-false t (length text) f in verdicts-by (text-remains w over x unlike) (d .some (inr (inl unlike))))
+        (test? (eqb t (length text)))

@@ -1,5 +1,5 @@
 -- Runs: what holds of each of n elements, found one by one or in blocks.
-use Prim.Native.Nat.{ℕ, _+_, _-_, _≤_, _<_}
+use Prim.Native.Nat.{ℕ, _+_, _-_, _*_, _≤_, _<_}
 use mathlib.Core.Path.{_≡_, sym, _∙_, subst}
 use mathlib.Core.List.{List}
 use mathlib.Core.Bool.{Bool, true, false, not}
@@ -8,7 +8,7 @@ use native.Mathlib.Omega.{arith}
 use lib.ListN.{getD}
 use borrow.Author.Tests.{not-false}
 use Rattle.standard.proofs.Choice.{below?}
-use Rattle.checker.specs.Runs.{quiet, Quiet, alike, Alike}
+use Rattle.checker.specs.Runs.{quiet, Quiet, alike, Alike, unitRow, UnitRows}
 
 -- Whether the i-th byte from at on is quiet, and whether the i-th bytes are alike.
 abbrev pub quietAt : (end : ℕ) (s : List ℕ) (at : ℕ) → ℕ → Bool
@@ -16,6 +16,10 @@ quietAt end s at i = quiet end (getD s (at + i) 0)
 
 abbrev pub alikeAt : (s : List ℕ) (at : ℕ) (text : List ℕ) (t : ℕ) → ℕ → Bool
 alikeAt s at text t i = alike (getD s (at + i) 0) (getD text (t + i) 0)
+
+-- Whether the i-th row from next on is of one byte.
+abbrev pub unitAt : (rows : List ℕ) (next : ℕ) → ℕ → Bool
+unitAt rows next i = unitRow (getD rows (next + 3 * i) 0) (getD rows (next + 3 * i + 1) 0) (getD rows (next + 3 * i + 2) 0)
 
 -- A test holds of the numbers below n.
 abbrev pub Each : (ℕ → Bool) → ℕ → Type 0
@@ -68,3 +72,9 @@ pub alike-join : (s : List ℕ) (at : ℕ) (text : List ℕ) (t i n : ℕ) → A
 alike-join s at text t i n first later =
     each-join (alikeAt s at text t) i n first (λ j k. let there : at + i + j ≡ at + (i + j) = omega arith in
     let here : t + i + j ≡ t + (i + j) = omega arith in rw (there, here) at (later j k))
+
+-- Rows of which i are of one byte, and n more.
+pub units-join : (rows : List ℕ) (next i n : ℕ) → UnitRows rows next i → UnitRows rows (next + 3 * i) n → UnitRows rows next (i + n)
+units-join rows next i n first later =
+    each-join (unitAt rows next) i n first
+    (λ j k. let there : next + 3 * i + 3 * j ≡ next + 3 * (i + j) = omega arith in rw there at (later j k))

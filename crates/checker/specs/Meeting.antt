@@ -3,6 +3,7 @@ use Prim.Native.Nat.{ℕ, _+_, _≤_, _<_}
 use mathlib.Core.Path.{_≡_}
 use mathlib.Core.List.{List}
 use mathlib.Core.Bool.{true, _&&_}
+use mathlib.Core.Logic.{_⊎_}
 use lib.Dec.{eqb}
 use lib.ListN.{length, drop}
 use Rattle.standard.specs.declared.Context.{Context}
@@ -15,7 +16,7 @@ use Rattle.checker.specs.declared.meeting.Met.{Met}
 use Rattle.checker.specs.declared.rows.Joint.{Joint}
 use Rattle.checker.specs.declared.rows.Judged.{Judged}
 use Rattle.checker.specs.declared.rows.Verdict as code
-use Rattle.checker.specs.Transcript.{Row, Left, left, total, reached, wrong, right, after, Verdict, words}
+use Rattle.checker.specs.Transcript.{Row, Left, left, total, reached, wrong, right, remains, after, Verdict, words}
 
 -- The numbers that are lent: words, or bytes where there are no words.
 abbrev pub lent : List ℕ → List ℕ → List ℕ
@@ -31,7 +32,7 @@ pub record Meets (met : Met) (values l : List ℕ) (r : Met) : Type 0 where
 abbrev pub so-far : ℕ → Met
 so-far at = record { right = true; at = at }
 
--- After what was met, the text and the errors of the pieces that n source bytes reach into were met.
+-- The pieces that n source bytes reach into: the place after them, and whether their text and their errors come next.
 pub record Joins (ps : List Piece) (at n : ℕ) (text : List ℕ) (t : Met) (errors : List ℕ) (e : Met) (r : Joint) : Type 0 where
   pub at-is : r .at ≡ at + total (reached n ps)
   pub text-met : Meets t (joined at (reached n ps) .text) text (r .text)
@@ -53,3 +54,8 @@ pub record Judges (names : List Name) (context : Context) (s : List ℕ) (at : �
 pub record Verdicts (v : Verdict) (r : code.Verdict) : Type 0 where
   pub reason-is : r .reason ≡ v .reason
   pub row-is : r .row ≡ v .at-row
+
+-- The verdict after the last of so many rows, where these places are reached: accepted where nothing remains.
+pub record Ends (s : List ℕ) (at : ℕ) (text : List ℕ) (t : ℕ) (errors : List ℕ) (e : ℕ) (at-row : ℕ) (r : code.Verdict) : Type 0 where
+  pub all : at ≡ length s → t ≡ length text → e ≡ length errors → (r .reason ≡ right) × (r .row ≡ 0)
+  pub some : ((at ≡ length s → ⊥) ⊎ ((t ≡ length text → ⊥) ⊎ (e ≡ length errors → ⊥))) → (r .reason ≡ remains) × (r .row ≡ at-row)

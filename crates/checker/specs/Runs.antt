@@ -1,5 +1,5 @@
 -- Runs of bytes that need no look at each character.
-use Prim.Native.Nat.{ℕ, _+_, _≤_, _<_}
+use Prim.Native.Nat.{ℕ, _+_, _*_, _≤_, _<_}
 use Prim.Native.Char.{code}
 use mathlib.Core.Path.{_≡_}
 use mathlib.Core.List.{List}
@@ -41,4 +41,21 @@ pub record PlainRow (s : List ℕ) (at n : ℕ) (text : List ℕ) (t m k : ℕ) 
   pub bytes : m ≡ n
   pub no-errors : k ≡ 0
   pub there : t + n ≤ length text
+  pub same : Alike s at text t n
+
+-- A row of one source byte, one text byte and no errors.
+abbrev pub unitRow : (n m k : ℕ) → Bool
+unitRow n m k = eqb n 1 && eqb m 1 && eqb k 0
+
+-- The n rows from next on are such.
+abbrev pub UnitRows : (rows : List ℕ) (next n : ℕ) → Type 0
+UnitRows rows next n =
+    (i : ℕ) → i < n → unitRow (getD rows (next + 3 * i) 0) (getD rows (next + 3 * i + 1) 0) (getD rows (next + 3 * i + 2) 0) ≡ true
+
+-- They are n bytes that the text has too.
+pub record PlainRows (rows : List ℕ) (next : ℕ) (s : List ℕ) (at : ℕ) (text : List ℕ) (t n : ℕ) : Type 0 where
+  pub rows-there : next + 3 * n ≤ length rows
+  pub source-there : at + n ≤ length s
+  pub text-there : t + n ≤ length text
+  pub units : UnitRows rows next n
   pub same : Alike s at text t n

@@ -30,7 +30,7 @@ fn written_as(c: u32) -> u32
     0xFFFD
 }
 
-// A character comes next in text.
+// Meets a character in text.
 fn meet_char(met: Met, text: &[u8], c: u32) -> Met
     requires { ⌜ met .at ≤ length (now text) ⌝ }
     ensures { λ r. ⌜ Meets met (encode c) (now (text .entry)) r ⌝ }
@@ -51,7 +51,7 @@ fn meet_char(met: Met, text: &[u8], c: u32) -> Met
     }
 }
 
-// The characters of a reference come next in text.
+// Meets the characters of a reference in text.
 pub(crate) fn meet_text(met: Met, text: &[u8], reference: CharRef) -> Met
     requires { ⌜ met .at ≤ length (now text) ⌝ }
     ensures { λ r. ⌜ Meets met (standard.charRefText reference) (now (text .entry)) r ⌝ }
@@ -99,7 +99,7 @@ pub(crate) fn number_at(words: &[u32], bytes: &[u8], at: usize) -> u32
     words[at]
 }
 
-// A number comes next in the errors.
+// Meets a number in the errors.
 fn meet_number(met: Met, words: &[u32], bytes: &[u8], n: u32) -> Met
     requires { ⌜ met .at ≤ length (lent (now words) (now bytes)) ⌝ }
     ensures { λ r. ⌜ Meets met (n ∷ []) (lent (now (words .entry)) (now (bytes .entry))) r ⌝ }
@@ -120,7 +120,7 @@ fn meet_number(met: Met, words: &[u32], bytes: &[u8], n: u32) -> Met
     }
 }
 
-// An error comes next in the errors: its code and its place.
+// Meets an error in the errors: its code and its place.
 fn meet_error(met: Met, words: &[u32], bytes: &[u8], code: u32, place: u32) -> Met
     requires { ⌜ met .at ≤ length (lent (now words) (now bytes)) ⌝ }
     ensures { λ r. ⌜ Meets met (code ∷ place ∷ []) (lent (now (words .entry)) (now (bytes .entry))) r ⌝ }
@@ -129,7 +129,7 @@ fn meet_error(met: Met, words: &[u32], bytes: &[u8], code: u32, place: u32) -> M
     meet_number(first, words, bytes, place)
 }
 
-// The errors of a piece come next in the errors.
+// Meets the errors of a piece in the errors.
 pub(crate) fn meet_codes(
     met: Met,
     words: &[u32],

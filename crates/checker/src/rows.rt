@@ -6,14 +6,16 @@ ghost use lib.ListN.{length, drop};
 ghost use Rattle.standard.specs.Names.{records};
 ghost use Rattle.standard.specs.Reading.{pieces};
 ghost use Rattle.checker.specs.Transcript.{row, verdictOn};
-ghost use Rattle.checker.specs.Runs.{AlikeIf, PlainRow};
-ghost use Rattle.checker.specs.Meeting.{lent, so-far, Joins, Judges, Verdicts};
+ghost use mathlib.Core.Logic.{_⊎_};
+ghost use Rattle.checker.specs.Runs.{AlikeIf, PlainRow, unitRow, UnitRows, PlainRows};
+ghost use Rattle.checker.specs.Meeting.{lent, so-far, Joins, Judges, Verdicts, Ends};
 use crate::meeting::Met;
 use crate::meeting::count;
 use crate::meeting::meet_codes;
 use crate::meeting::meet_text;
 use crate::meeting::number_at;
 use crate::pieces::piece_at;
+use crate::runs::alike_block;
 use crate::runs::alike_run;
 use standard::Context;
 
@@ -35,7 +37,7 @@ fn text_run(right: bool, s: &[u8], at: usize, n: usize, text: &[u8], t: usize) -
     0
 }
 
-// The pieces from `from` on that reach up to end or past it.
+// Meets the pieces from `from` on, up to one that reaches end or passes it.
 fn meet_pieces(
     table: &[u8],
     context: Context,
@@ -133,7 +135,7 @@ fn plain_row(s: &[u8], at: usize, n: usize, text: &[u8], t: usize, m: u32, k: u3
     alike_run(s, at, n, text, t) == n
 }
 
-// A row of n source bytes, m text bytes and k errors.
+// Judges a row of n source bytes, m text bytes and k errors, from the places at, t and e on.
 fn judge_row(
     table: &[u8],
     context: Context,
@@ -210,6 +212,82 @@ pub(crate) struct Verdict {
     pub row: u32,
 }
 
+// A row of one source byte, one text byte and no errors.
+fn unit(n: u32, m: u32, k: u32) -> bool
+    ensures { λ r. ⌜ r ≡ unitRow n m k ⌝ }
+{
+    (n == 1) & (m == 1) & (k == 0)
+}
+
+// Whether the 32 rows from next on have one source byte, one text byte and no errors each.
+fn unit_rows(rows: &[u32], next: usize) -> bool
+    requires { ⌜ next + 96 ≤ length (now rows) ⌝ }
+    ensures { λ r. ⌜ (r ≡ true → UnitRows (now (rows .entry)) next 32) ⌝ }
+{
+    let mut odd: u8 = 0;
+    let mut i: usize = 0;
+    while i < 32 {
+        let at = next + 3 * i;
+        if !unit(rows[at], rows[at + 1], rows[at + 2]) {
+            odd += 1;
+        }
+        i += 1;
+    }
+    odd == 0
+}
+
+// How many rows from next on, in blocks of 32, are one byte each that the text has too.
+fn plain_rows(rows: &[u32], next: usize, s: &[u8], at: usize, text: &[u8], t: usize) -> usize
+    requires { ⌜ (at ≤ length (now s)) × (t ≤ length (now text)) ⌝ }
+    ensures { λ r. ⌜ (r ≡ 0) ⊎ PlainRows (now (rows .entry)) next (now (s .entry)) at (now (text .entry)) t r ⌝ }
+{
+    if rows.len() < next {
+        return 0;
+    }
+    let mut i: usize = 0;
+    while 96 <= rows.len() - next - 3 * i {
+        if s.len() - at - i < 32 {
+            return i;
+        }
+        if text.len() - t - i < 32 {
+            return i;
+        }
+        if !unit_rows(rows, next + 3 * i) {
+            return i;
+        }
+        if !alike_block(s, at + i, text, t + i) {
+            return i;
+        }
+        i += 32;
+    }
+    i
+}
+
+// The verdict after the last of so many rows, where these places are reached: whether something remains.
+fn last_verdict(
+    s: &[u8],
+    at: usize,
+    text: &[u8],
+    t: usize,
+    errors: &[u32],
+    error_bytes: &[u8],
+    e: usize,
+    row: u32,
+) -> Verdict
+    ensures { λ r. ⌜ Ends (now (s .entry)) at (now (text .entry)) t (lent (now (errors .entry)) (now («error_bytes» .entry))) e row r ⌝ }
+{
+    if at != s.len() {
+        return Verdict { reason: 5, row };
+    }
+    if t != text.len() {
+        return Verdict { reason: 5, row };
+    }
+    if e != count(errors, error_bytes) {
+        return Verdict { reason: 5, row };
+    }
+    Verdict { reason: 0, row: 0 }
+}
+
 // The verdict on a transcript of the covered source s.
 pub(crate) fn judge(
     table: &[u8],
@@ -232,9 +310,17 @@ pub(crate) fn judge(
     let mut t: usize = 0;
     let mut e: usize = 0;
     while next < numbers {
-        let n = number_at(rows, row_bytes, next);
-        let m = number_at(rows, row_bytes, next + 1);
-        let k = number_at(rows, row_bytes, next + 2);
+        let plain = plain_rows(rows, next, s, at, text, t);
+        let first = next + 3 * plain;
+        let number = row + plain as u32;
+        at += plain;
+        t += plain;
+        if first == numbers {
+            return last_verdict(s, at, text, t, errors, error_bytes, e, number);
+        }
+        let n = number_at(rows, row_bytes, first);
+        let m = number_at(rows, row_bytes, first + 1);
+        let k = number_at(rows, row_bytes, first + 2);
         let judged = judge_row(
             table,
             context,
@@ -252,23 +338,14 @@ pub(crate) fn judge(
         if judged.reason != 0 {
             return Verdict {
                 reason: judged.reason,
-                row,
+                row: number,
             };
         }
         at = judged.at;
         t = judged.text;
         e = judged.errors;
-        next += 3;
-        row += 1;
+        next = first + 3;
+        row = number + 1;
     }
-    if at != s.len() {
-        return Verdict { reason: 5, row };
-    }
-    if t != text.len() {
-        return Verdict { reason: 5, row };
-    }
-    if e != count(errors, error_bytes) {
-        return Verdict { reason: 5, row };
-    }
-    Verdict { reason: 0, row: 0 }
+    last_verdict(s, at, text, t, errors, error_bytes, e, row)
 }

@@ -79,7 +79,7 @@ fn alike(b: u8, c: u8) -> bool
 }
 
 // Whether the 32 bytes of s from at on and those of text from t on are alike.
-fn alike_block(s: &[u8], at: usize, text: &[u8], t: usize) -> bool
+pub(crate) fn alike_block(s: &[u8], at: usize, text: &[u8], t: usize) -> bool
     requires { ⌜ (at + 32 ≤ length (now s)) × (t + 32 ≤ length (now text)) ⌝ }
     ensures { λ r. ⌜ (r ≡ true → spec.Alike (now (s .entry)) at (now (text .entry)) t 32) ⌝ }
 {
