@@ -236,12 +236,25 @@ fn unit_rows(rows: &[u32], next: usize) -> bool
     odd == 0
 }
 
+// Whether 32 rows are there from next on, and the first is such a row: then a look at all of them may pay.
+fn begins_block(rows: &[u32], next: usize) -> bool
+    ensures { λ r. ⌜ (r ≡ true → next + 96 ≤ length (now (rows .entry))) ⌝ }
+{
+    if rows.len() < next {
+        return false;
+    }
+    if rows.len() - next < 96 {
+        return false;
+    }
+    unit(rows[next], rows[next + 1], rows[next + 2])
+}
+
 // How many rows from next on, in blocks of 32, are one byte each that the text has too.
 fn plain_rows(rows: &[u32], next: usize, s: &[u8], at: usize, text: &[u8], t: usize) -> usize
     requires { ⌜ (at ≤ length (now s)) × (t ≤ length (now text)) ⌝ }
     ensures { λ r. ⌜ (r ≡ 0) ⊎ PlainRows (now (rows .entry)) next (now (s .entry)) at (now (text .entry)) t r ⌝ }
 {
-    if rows.len() < next {
+    if !begins_block(rows, next) {
         return 0;
     }
     let mut i: usize = 0;

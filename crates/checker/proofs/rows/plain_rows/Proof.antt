@@ -4,6 +4,7 @@ use mathlib.Core.Path.{refl}
 use mathlib.Core.Logic.{inl, inr}
 use native.Mathlib.Omega.{arith}
 use lib.ListN.{length}
+use borrow.Author.Needs.{needs}
 use borrow.Author.Tests.{not-false}
 use Rattle.checker.specs.Runs.{PlainRows}
 use Rattle.checker.proofs.RunLaws.{unitAt, alikeAt, each-none, units-join, alike-join}
@@ -16,13 +17,16 @@ Inv-loop rows next s at text t i₀ i = PlainRows rows next s at text t i
 abbrev μ-loop : tie.MeasureT-loop
 μ-loop rows next s at text t i₀ i = length s - i
 
+begins-block-requires : tie.Need-begins-block-requires Inv-loop μ-loop
+begins-block-requires c κs = search needs
+
 returns : tie.Need-returns Inv-loop μ-loop
 returns c = inl refl
 
 loop-holds : tie.Need-loop-holds Inv-loop μ-loop
 loop-holds c =
-    let a = c .before .before .before .before .args in record {
-      rows-there = omega arith;
+    let a = c .before .before .before .before .before .args in record {
+      rows-there = omega (arith, c .before .begins-block .ensures (not-false _ (c .if1 .left)));
       source-there = omega arith;
       text-there = omega arith;
       units = each-none (unitAt (a .rows .now) (a .next));
@@ -90,15 +94,15 @@ less n at i h = omega arith
 loop-less : tie.Need-loop-less Inv-loop μ-loop
 loop-less c =
     let c5 = c .before .before .before .before .before in
-    let c12 = c5 .before .before .before .before .before .before .before in
-    less _ (c12 .args .at) _ (c5 .if2 .left)
+    let c13 = c5 .before .before .before .before .before .before .before .before in
+    less _ (c13 .args .at) _ (c5 .if2 .left)
 
 loop-again : tie.Need-loop-again Inv-loop μ-loop
 loop-again c =
     let c3 = c .before .before .before in
     let c7 = c3 .before .before .before .before in
-    let c12 = c7 .before .before .before .before .before in
-    let a = c12 .args in
+    let c13 = c7 .before .before .before .before .before .before in
+    let a = c13 .args in
     let w = c7 .loop .inv in record {
       rows-there = omega arith;
       source-there = omega arith;
@@ -112,5 +116,6 @@ returns-6 c = inr (c .before .loop .inv)
 
 pub plain-rows-spec : {M : Type 1} → statement M
 plain-rows-spec = tie.close
-    (tie.spec Inv-loop μ-loop returns loop-holds sub-loop mul-loop sub-loop-2 sub-if2 sub-if2-2 returns-2 sub-if3 sub-if3-2 returns-3 mul-unit-rows
-    add-unit-rows unit-rows-requires returns-4 add-alike-block add-alike-block-2 alike-block-requires returns-5 add-i loop-less loop-again returns-6)
+    (tie.spec Inv-loop μ-loop begins-block-requires returns loop-holds sub-loop mul-loop sub-loop-2 sub-if2 sub-if2-2 returns-2 sub-if3 sub-if3-2
+    returns-3 mul-unit-rows add-unit-rows unit-rows-requires returns-4 add-alike-block add-alike-block-2 alike-block-requires returns-5 add-i
+    loop-less loop-again returns-6)
