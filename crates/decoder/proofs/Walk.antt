@@ -1,11 +1,12 @@
 -- The walk over a covered source: what was read so far is written, and with what is still to be read it is the whole reading.
-use Prim.Native.Nat.{ℕ, _+_, _-_, _*_, _≤_, _<_}
+use Prim.Native.Nat.{ℕ, _+_, _-_, _*_, _/_, _≤_, _<_}
 use mathlib.Core.Path.{_≡_, refl, sym, _∙_, ap}
 use mathlib.Core.List.{List, []}
 use mathlib.Core.Bool.{Bool, true}
+use native.Mathlib.Nat.{zero-add, mul-comm, mul-le-mul-right}
 use native.Mathlib.Omega.{arith}
 use lib.ListN.{length, take, drop, length-append, length-drop, drop-of-length-le}
-use lib.Seq.{drop-drop}
+use lib.Seq.{drop-drop, sets, sets-eq, take-append-seam}
 use Rattle.standard.specs.declared.Context.{Context}
 use Rattle.standard.specs.Notation.{front}
 use Rattle.standard.specs.Names.{Name, tableOf, records}
@@ -13,48 +14,49 @@ use Rattle.standard.specs.NameList.{builtin}
 use Rattle.standard.specs.Pieces as standard
 use Rattle.standard.specs.Pieces.{pieceAt}
 use Rattle.standard.specs.Reading.{piecesFrom, pieces, Reading, reading, readingAt, _⊕_, joined, decode}
-use Rattle.standard.specs.Rooms.{Put, Wrote}
+use Rattle.standard.specs.Errors.{numbers}
+use Rattle.standard.specs.Rooms.{Put, fours, WroteBy, Wrote}
 use Rattle.standard.proofs.Ascii.{Plain, joined-run}
 use Rattle.standard.proofs.Bounds.{pieces-unfold, text-fits, errors-fit}
 use Rattle.standard.proofs.BuiltinNames.{table-read}
 use Rattle.standard.proofs.Fronts.{front-is-take, front-length}
 use Rattle.standard.proofs.Narrow.{Narrow, builtin-narrow}
 use Rattle.standard.proofs.Skips.{rest-from}
-use Rattle.rooms.proofs.Fits.{copy-fits}
+use Rattle.rooms.proofs.Fits.{copy-fits, numbers-fit}
 use Rattle.decoder.specs.declared.pieces.Piece.{Piece}
 use Rattle.decoder.specs.Pieces.{pieceOf}
 use Rattle.decoder.specs.Runs.{plain, endOf}
 use Rattle.decoder.proofs.Quiet.{plain-is}
 use Rattle.standard.proofs.PieceSize.{piece-size}
-use Rattle.standard.proofs.Puts.{wrote-none, wrote-text, wrote-join, put-length, numbers-length, ⊕-assoc, ⊕-none}
+use Rattle.standard.proofs.Puts.{Laying, by-none, by-text, by-join, put-length, numbers-length, ⊕-assoc, ⊕-none}
 
 -- What is still to be read from at on.
 abbrev pub rest : List Name → Context → List ℕ → ℕ → Reading
 rest names context s at = joined at (pieces names context (drop at s))
 
--- The rooms as they were lent, and as they are with at bytes read: text up to w and errors up to e are written.
-pub record Going (names : List Name) (context : Context) (s text₀ errors₀ : List ℕ) (at : ℕ) (text : List ℕ) (w : ℕ) (errors : List ℕ) (e : ℕ)
-    : Type 0 where
+-- The rooms as they were lent, and as they are with at bytes read: text up to w and errors, laid so, up to e are written.
+pub record Going (lay : List ℕ → List ℕ) (names : List Name) (context : Context) (s text₀ errors₀ : List ℕ) (at : ℕ) (text : List ℕ) (w : ℕ)
+    (errors : List ℕ) (e : ℕ) : Type 0 where
   pub there : at ≤ length s
   pub so-far : Reading
   pub whole : so-far ⊕ rest names context s at ≡ decode names context s
-  pub wrote : Wrote so-far text₀ 0 text w errors₀ 0 errors e
+  pub wrote : WroteBy lay so-far text₀ 0 text w errors₀ 0 errors e
 
-module _ {names : List Name} {context : Context} {s text₀ errors₀ : List ℕ} where
+module _ {width : ℕ} {lay : List ℕ → List ℕ} (laid : Laying width lay) {names : List Name} {context : Context} {s text₀ errors₀ : List ℕ} where
   -- Nothing is read yet.
-  pub going-start : Going names context s text₀ errors₀ 0 text₀ 0 errors₀ 0
-  going-start = record { there = omega arith; so-far = reading [] []; whole = refl; wrote = wrote-none text₀ 0 errors₀ 0 }
+  pub going-start : Going lay names context s text₀ errors₀ 0 text₀ 0 errors₀ 0
+  going-start = record { there = omega arith; so-far = reading [] []; whole = refl; wrote = by-none laid text₀ 0 errors₀ 0 }
 
-  module _ {at w e : ℕ} {text errors : List ℕ} (g : Going names context s text₀ errors₀ at text w errors e) where
+  module _ {at w e : ℕ} {text errors : List ℕ} (g : Going lay names context s text₀ errors₀ at text w errors e) where
     -- One more reading is written.
     going-on : {text′ errors′ : List ℕ} {w′ e′ : ℕ} (next : ℕ) (r : Reading) → next ≤ length s
-        → rest names context s at ≡ r ⊕ rest names context s next → Wrote r text w text′ w′ errors e errors′ e′
-        → Going names context s text₀ errors₀ next text′ w′ errors′ e′
+        → rest names context s at ≡ r ⊕ rest names context s next → WroteBy lay r text w text′ w′ errors e errors′ e′
+        → Going lay names context s text₀ errors₀ next text′ w′ errors′ e′
     going-on next r there split wrote = record {
       there = there;
       so-far = g .so-far ⊕ r;
       whole = ⊕-assoc (g .so-far) r (rest names context s next) ∙ ap (λ (x : Reading). g .so-far ⊕ x) (sym split) ∙ g .whole;
-      wrote = wrote-join (g .wrote) wrote;
+      wrote = by-join laid (g .wrote) wrote;
     }
 
     -- What is still to be read begins with a run of plain bytes.
@@ -71,15 +73,15 @@ module _ {names : List Name} {context : Context} {s text₀ errors₀ : List ℕ
     -- A run of plain bytes is copied.
     pub going-run : {text′ : List ℕ} {w′ : ℕ} (p : ℕ → Bool) → ((b : ℕ) → p b ≡ true → Plain b) → (next : ℕ)
         → next ≡ at + length (front p (drop at s)) → next ≤ length s → Put text w (front p (drop at s)) text′ w′
-        → Going names context s text₀ errors₀ next text′ w′ errors e
+        → Going lay names context s text₀ errors₀ next text′ w′ errors e
     going-run p plain next is there put =
         going-on next (reading (front p (drop at s)) []) there
-        (run-split p plain ∙ ap (λ (n : ℕ). reading (front p (drop at s)) [] ⊕ rest names context s n) (sym is)) (wrote-text errors e put)
+        (run-split p plain ∙ ap (λ (n : ℕ). reading (front p (drop at s)) [] ⊕ rest names context s n) (sym is)) (by-text laid errors e put)
 
     -- A piece is written.
     pub going-piece : {text′ errors′ : List ℕ} {w′ e′ : ℕ} (q : standard.Piece) → q ≡ pieceAt names context (drop at s) → at < length s
-        → Wrote (readingAt at q) text w text′ w′ errors e errors′ e′
-        → Going names context s text₀ errors₀ (at + q .size) text′ w′ errors′ e′
+        → WroteBy lay (readingAt at q) text w text′ w′ errors e errors′ e′
+        → Going lay names context s text₀ errors₀ (at + q .size) text′ w′ errors′ e′
     unfolding joined
     going-piece q is more wrote = going-on (at + q .size) (readingAt at q) size split wrote
       where
@@ -93,7 +95,7 @@ module _ {names : List Name} {context : Context} {s text₀ errors₀ : List ℕ
         split = rw (pieces-unfold names context (drop at s) left, is, drop-drop (pieceAt names context (drop at s) .size) at s)
 
     -- Where all is read, the whole is written.
-    pub going-end : length s ≤ at → Wrote (decode names context s) text₀ 0 text w errors₀ 0 errors e
+    pub going-end : length s ≤ at → WroteBy lay (decode names context s) text₀ 0 text w errors₀ 0 errors e
     unfolding piecesFrom joined
     going-end done = rw (sym whole) (g .wrote)
       where
@@ -103,48 +105,71 @@ module _ {names : List Name} {context : Context} {s text₀ errors₀ : List ℕ
             ∙ g .whole
 
     -- What is written so far is within the bounds of the whole, and the rooms are as long as they were.
-    pub going-room : Narrow names → (w ≤ length s) × (e ≤ 2 * length s) × (length text ≡ length text₀) × (length errors ≡ length errors₀)
+    pub going-room : Narrow names → (w ≤ length s) × (e ≤ width * (2 * length s)) × (length text ≡ length text₀) × (length errors ≡ length errors₀)
     going-room narrow =
         let t = ap (λ (r : Reading). length (r .text)) (g .whole) in
         let n = ap (λ (r : Reading). length (r .errors)) (g .whole) in
         let p = g .wrote .texts in
-        let q = g .wrote .numbers-of in (
+        let q = g .wrote .numbers-of in
+        let m : length (numbers (g .so-far .errors)) ≤ 2 * length s =
+        omega (arith, numbers-length (g .so-far .errors), simp length-append at n, errors-fit names context s) in (
           omega (arith, p .next-is, simp length-append at t, text-fits names context s narrow),
-          omega (arith, q .next-is, numbers-length (g .so-far .errors), simp length-append at n, errors-fit names context s),
+          (let k : length (numbers (g .so-far .errors)) * width ≤ 2 * length s * width = mul-le-mul-right width m in
+              omega (
+                arith,
+                q .next-is,
+                laid .long (numbers (g .so-far .errors)),
+                mul-comm width (length (numbers (g .so-far .errors))),
+                mul-comm width (2 * length s),
+              )),
           put-length p,
           put-length q,
         )
 
+-- Numbers that were written at the start of an array stand there.
+take-sets : (l values : List ℕ) → length values ≤ length l → take (length values) (sets l 0 values) ≡ values
+take-sets l values h = rw (sets-eq values l 0 (omega arith), zero-add (length values)) (take-append-seam values (drop (length values) l))
+
+-- A reading whose numbers were written into an array, and from there as bytes.
+pub wrote-through : {r : Reading} {text text′ few few′ errors errors′ : List ℕ} {w w′ n e e′ : ℕ} → Wrote r text w text′ w′ few 0 few′ n
+    → n ≤ length few → e + 4 * n ≤ length errors → Put errors e (fours (take ((length errors - e) / 4) (take n few′))) errors′ e′
+    → WroteBy fours r text w text′ w′ errors e errors′ e′
+wrote-through {r} {few = few} {n = n} a h room p =
+    let is : n ≡ length (numbers (r .errors)) = omega (arith, a .numbers-of .next-is) in
+    let all = rw (a .numbers-of .new-is, is, take-sets few (numbers (r .errors)) (omega arith)) at p in
+    record { texts = a .texts; numbers-of = numbers-fit (numbers (r .errors)) (omega arith) all }
+
 -- One turn of the decoder's loop over the built-in names: a run is copied, and then a piece is written.
-module _ {context : Context} {s text₀ errors₀ text errors : List ℕ} {at w e : ℕ} (room : length s + 64 ≤ length text₀) where
+module _ {width : ℕ} {lay : List ℕ → List ℕ} (laid : Laying width lay) {context : Context} {s text₀ errors₀ text errors : List ℕ} {at w e : ℕ}
+    (room : length s + 64 ≤ length text₀) where
   -- A run ends within the source.
-  pub run-there : {from : ℕ} → Going builtin context s text₀ errors₀ at text w errors e → from ≡ at + length (front (plain (endOf context))
+  pub run-there : {from : ℕ} → Going lay builtin context s text₀ errors₀ at text w errors e → from ≡ at + length (front (plain (endOf context))
       (drop at s))
       → from ≤ length s
   run-there g is = omega (arith, g .there, front-length (plain (endOf context)) (drop at s), length-drop at s)
 
   -- The run from at on is copied, and from is the place after it.
-  pub turn-run : {text′ : List ℕ} {w′ from : ℕ} → Going builtin context s text₀ errors₀ at text w errors e
+  pub turn-run : {text′ : List ℕ} {w′ from : ℕ} → Going lay builtin context s text₀ errors₀ at text w errors e
       → from ≡ at + length (front (plain (endOf context)) (drop at s)) → Put text w (take (length text - w) (take (from - at) (drop at s))) text′ w′
-      → Going builtin context s text₀ errors₀ from text′ w′ errors e
+      → Going lay builtin context s text₀ errors₀ from text′ w′ errors e
   turn-run {text′} {w′} {from} g is put =
       let run : List ℕ = front (plain (endOf context)) (drop at s) in
       let h = front-length (plain (endOf context)) (drop at s) in
       let long : from - at ≡ length run = omega arith in
       let whole : take (from - at) (drop at s) ≡ run = ap (λ (n : ℕ). take n (drop at s)) long ∙ sym (front-is-take (plain (endOf context))
       (drop at s)) in
-      let r = run-room g builtin-narrow (plain (endOf context)) (plain-is (endOf context)) in
-      let k = going-room g builtin-narrow in
-      going-run g (plain (endOf context)) (plain-is (endOf context)) from is (omega (arith, g .there, length-drop at s))
+      let r = run-room laid g builtin-narrow (plain (endOf context)) (plain-is (endOf context)) in
+      let k = going-room laid g builtin-narrow in
+      going-run laid g (plain (endOf context)) (plain-is (endOf context)) from is (omega (arith, g .there, length-drop at s))
       (copy-fits (omega arith) (rw whole at put))
 
   -- A piece at at is written.
-  pub turn-piece : {text′ errors′ table : List ℕ} {w′ e′ : ℕ} (q : Piece) → Going builtin context s text₀ errors₀ at text w errors e
+  pub turn-piece : {text′ errors′ table : List ℕ} {w′ e′ : ℕ} (q : Piece) → Going lay builtin context s text₀ errors₀ at text w errors e
       → table ≡ tableOf builtin → pieceOf q ≡ pieceAt (records table) context (take (length s - at) (drop at s)) → at < length s
-      → Wrote (readingAt at (pieceOf q)) text w text′ w′ errors e errors′ e′
-      → Going builtin context s text₀ errors₀ (at + q .size) text′ w′ errors′ e′
+      → WroteBy lay (readingAt at (pieceOf q)) text w text′ w′ errors e errors′ e′
+      → Going lay builtin context s text₀ errors₀ (at + q .size) text′ w′ errors′ e′
   turn-piece {table = table} q g t is more wrote =
-      going-piece g (pieceOf q) (is ∙ rw (t, table-read, rest-from s at)) more wrote
+      going-piece laid g (pieceOf q) (is ∙ rw (t, table-read, rest-from s at)) more wrote
 
 -- A piece that is read has a byte.
 pub piece-some : (context : Context) (s : List ℕ) (at : ℕ) {table : List ℕ} (q : Piece) → table ≡ tableOf builtin

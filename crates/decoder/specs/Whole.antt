@@ -1,5 +1,5 @@
 -- Document 01, 'Whole-slice calls', decode whole: the answer, and what is written.
-use Prim.Native.Nat.{ℕ, _+_, _*_}
+use Prim.Native.Nat.{ℕ, _+_, _*_, _/_}
 use mathlib.Core.Path.{_≡_}
 use mathlib.Core.List.{List, []}
 use mathlib.Core.Bool.{_||_}
@@ -12,6 +12,7 @@ use Rattle.standard.specs.Answers.{done, ill-formed, nul, too-long, context-end
 use Rattle.standard.specs.Errors.{numbers}
 use Rattle.standard.specs.NameList.{builtin}
 use Rattle.standard.specs.Reading.{Stop, stopOf, covered, Reading, reading, decode, text-bound, errors-bound}
+use Rattle.standard.specs.Rooms.{plainly, fours}
 use Rattle.decoder.specs.declared.whole.Decoded.{Decoded}
 
 -- The room that a source of n bytes asks for: text bytes, and error numbers.
@@ -53,14 +54,30 @@ decodedOf context s text errors =
     let written : Reading = writtenOf context s text errors in
     decoded answer (textNamed answer s written) (length (written .errors)) (placeNamed answer (stopOf context s))
 
--- A result that says what was written, and the rooms that hold it.
-pub record Reads (reads : Reading) (answer place : ℕ) (text errors : List ℕ) (r : Decoded) (text′ errors′ : List ℕ) : Type 0 where
+-- The answer as it is before anything is written.
+abbrev pub unreadOf : Context → List ℕ → (text errors : ℕ) → Decoded
+unreadOf context s text errors =
+    let answer : ℕ = answerOf context s text errors in
+    decoded answer (textNamed answer s (reading [] [])) 0 (placeNamed answer (stopOf context s))
+
+-- A result that says what was written, and the rooms that hold it, the error numbers laid so.
+pub record Reads (lay : List ℕ → List ℕ) (reads : Reading) (answer place : ℕ) (text errors : List ℕ) (r : Decoded) (text′ errors′ : List ℕ)
+    : Type 0 where
   pub answered : r ≡ decoded answer (length (reads .text)) (length (reads .errors)) place
   pub texts : text′ ≡ sets text 0 (reads .text)
-  pub numbers-of : errors′ ≡ sets errors 0 (numbers (reads .errors))
+  pub numbers-of : errors′ ≡ sets errors 0 (lay (numbers (reads .errors)))
 
--- What a call gives for a source and two rooms: its result, and what the rooms then hold.
-pub record Decodes (context : Context) (source text errors : List ℕ) (r : Decoded) (text′ errors′ : List ℕ) : Type 0 where
-  pub answered : r ≡ decodedOf context source (length text) (length errors)
-  pub texts : text′ ≡ sets text 0 (writtenOf context source (length text) (length errors) .text)
-  pub numbers-of : errors′ ≡ sets errors 0 (numbers (writtenOf context source (length text) (length errors) .errors))
+-- What a call gives for a source and two rooms, with room for so many error numbers, laid so: its result, and what the rooms then hold.
+pub record DecodesBy (lay : List ℕ → List ℕ) (room : ℕ) (context : Context) (source text errors : List ℕ) (r : Decoded) (text′ errors′ : List ℕ)
+    : Type 0 where
+  pub answered : r ≡ decodedOf context source (length text) room
+  pub texts : text′ ≡ sets text 0 (writtenOf context source (length text) room .text)
+  pub numbers-of : errors′ ≡ sets errors 0 (lay (numbers (writtenOf context source (length text) room .errors)))
+
+-- With an error room of numbers.
+abbrev pub Decodes : (context : Context) (source text errors : List ℕ) (r : Decoded) (text′ errors′ : List ℕ) → Type 0
+Decodes context source text errors = DecodesBy plainly (length errors) context source text errors
+
+-- With an error room of bytes, four a number: odd last bytes are no room.
+abbrev pub DecodesBytes : (context : Context) (source text errors : List ℕ) (r : Decoded) (text′ errors′ : List ℕ) → Type 0
+DecodesBytes context source text errors = DecodesBy fours (length errors / 4) context source text errors

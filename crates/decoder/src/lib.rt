@@ -17,4 +17,5 @@ pub use stream::Held;
 pub use stream::State;
 pub use stream::Stream;
 pub use whole::Decoded;
+pub use whole::decode_bytes;
 pub use whole::decode_whole;

@@ -1,12 +1,12 @@
 // A whole source at once.
 ghost use mathlib.Core.Path.{_≡_};
-ghost use Prim.Native.Nat.{_≤_, _<_, _+_, _*_};
+ghost use Prim.Native.Nat.{_≤_, _+_, _*_};
 ghost use lib.ListN.{length};
 ghost use Rattle.standard.specs.Names.{tableOf};
 ghost use Rattle.standard.specs.NameList.{builtin};
 ghost use Rattle.standard.specs.Reading.{decode};
-ghost use Rattle.standard.specs.Rooms.{Wrote};
-ghost use Rattle.decoder.specs.Whole.{textRoom, decoded, Reads, Decodes};
+ghost use Rattle.standard.specs.Rooms.{plainly, fours, WroteBy, Wrote};
+ghost use Rattle.decoder.specs.Whole.{unreadOf, Reads, Decodes, DecodesBytes};
 use crate::pieces::piece_at;
 use crate::runs::plain_run;
 use crate::stops::find_stop;
@@ -54,16 +54,74 @@ fn decode_pieces(
     Written { text: w, errors: e }
 }
 
-// The source's room is asked for: answer 9.
-fn asked(length: usize) -> Decoded
-    requires { ⌜ length ≤ 65536 ⌝ }
-    ensures { λ r. ⌜ r ≡ decoded 9 (textRoom length) 0 0 ⌝ }
+// The same, with the numbers of errors as bytes. Those of one piece are few, and are laid out from an array.
+fn decode_pieces_bytes(
+    table: &[u8],
+    context: Context,
+    s: &[u8],
+    text: &mut [u8],
+    errors: &mut [u8],
+) -> Written
+    requires { ⌜ (now table ≡ tableOf builtin) × (length (now s) ≤ 65536)
+        × (length (now s) + 64 ≤ length (now text)) × (4 * (2 * length (now s) + 8) ≤ length (now errors)) ⌝ }
+    ensures { λ r. ⌜ WroteBy fours (decode builtin context (now (s .entry))) (now (text .entry)) 0 (now (text .exit)) (r .text)
+        (now (errors .entry)) 0 (now (errors .exit)) (r .errors) ⌝ }
 {
+    let mut few: [u32; 4] = [0; 4];
+    let mut at: usize = 0;
+    let mut w: usize = 0;
+    let mut e: usize = 0;
+    while at < s.len() {
+        let from = plain_run(s, at, context);
+        w = rooms::copy(&s[at..from], text, w);
+        if from == s.len() {
+            return Written { text: w, errors: e };
+        }
+        let piece = piece_at(table, context, &s[from..]);
+        let next = put_piece(text, w, &mut few, 0, piece, from as u32);
+        w = next.text;
+        e = rooms::put_numbers(&few[..next.errors], errors, e);
+        at = from + piece.size;
+    }
+    Written { text: w, errors: e }
+}
+
+// The answer before anything is written: 3, then 9, then why and where the source stops.
+fn unread(context: Context, source: &[u8], text: usize, errors: usize) -> Decoded
+    ensures { λ r. ⌜ r ≡ unreadOf context (now (source .entry)) text errors ⌝ }
+{
+    let length = source.len();
+    if 65536 < length {
+        return Decoded {
+            answer: 3,
+            text: 0,
+            errors: 0,
+            place: 0,
+        };
+    }
+    let short = (text < length + 64) | (errors < 2 * length + 8);
+    if short {
+        return Decoded {
+            answer: 9,
+            text: (length + 64) as u32,
+            errors: 0,
+            place: 0,
+        };
+    }
+    let stop = find_stop(context, source);
+    if stop.answer == 0 {
+        return Decoded {
+            answer: 0,
+            text: 0,
+            errors: 0,
+            place: 0,
+        };
+    }
     Decoded {
-        answer: 9,
-        text: (length + 64) as u32,
+        answer: stop.answer,
+        text: 0,
         errors: 0,
-        place: 0,
+        place: stop.place as u32,
     }
 }
 
@@ -77,7 +135,7 @@ fn read_covered(
     place: u32,
 ) -> Decoded
     requires { ⌜ (length (now s) ≤ 65536) × (length (now s) + 64 ≤ length (now text)) × (2 * length (now s) + 8 ≤ length (now errors)) ⌝ }
-    ensures { λ r. ⌜ Reads (decode builtin context (now (s .entry))) answer place (now (text .entry)) (now (errors .entry))
+    ensures { λ r. ⌜ Reads plainly (decode builtin context (now (s .entry))) answer place (now (text .entry)) (now (errors .entry))
         r (now (text .exit)) (now (errors .exit)) ⌝ }
 {
     let table = builtin_names();
@@ -90,38 +148,56 @@ fn read_covered(
     }
 }
 
+// The same, with the numbers of errors as bytes.
+fn read_covered_bytes(
+    context: Context,
+    s: &[u8],
+    text: &mut [u8],
+    errors: &mut [u8],
+    answer: u32,
+    place: u32,
+) -> Decoded
+    requires { ⌜ (length (now s) ≤ 65536) × (length (now s) + 64 ≤ length (now text)) × (4 * (2 * length (now s) + 8) ≤ length (now errors)) ⌝ }
+    ensures { λ r. ⌜ Reads fours (decode builtin context (now (s .entry))) answer place (now (text .entry)) (now (errors .entry))
+        r (now (text .exit)) (now (errors .exit)) ⌝ }
+{
+    let table = builtin_names();
+    let written = decode_pieces_bytes(&table, context, s, text, errors);
+    Decoded {
+        answer,
+        text: written.text as u32,
+        errors: (written.errors / 8) as u32,
+        place,
+    }
+}
+
 // Text and errors of a whole source.
 pub fn decode_whole(context: Context, source: &[u8], text: &mut [u8], errors: &mut [u32]) -> Decoded
     ensures { λ r. ⌜ Decodes context (now (source .entry)) (now (text .entry)) (now (errors .entry)) r (now (text .exit)) (now (errors .exit)) ⌝ }
 {
-    let length = source.len();
-    if 65536 < length {
-        return Decoded {
-            answer: 3,
-            text: 0,
-            errors: 0,
-            place: 0,
-        };
-    }
-    if text.len() < length + 64 {
-        return asked(length);
-    }
-    if errors.len() < 2 * length + 8 {
-        return asked(length);
-    }
-    let stop = find_stop(context, source);
-    let answer = stop.answer;
-    let place = stop.place;
-    if answer == 0 {
+    let answer = unread(context, source, text.len(), errors.len());
+    let place = answer.place;
+    if answer.answer == 0 {
         return read_covered(context, source, text, errors, 0, 0);
     }
-    if answer == 7 {
-        return read_covered(context, &source[..place], text, errors, 7, place as u32);
+    if answer.answer == 7 {
+        return read_covered(context, &source[..place as usize], text, errors, 7, place);
     }
-    Decoded {
-        answer,
-        text: 0,
-        errors: 0,
-        place: place as u32,
+    answer
+}
+
+// The same where the error room is bytes, four a number, the lowest first.
+pub fn decode_bytes(context: Context, source: &[u8], text: &mut [u8], errors: &mut [u8]) -> Decoded
+    ensures { λ r. ⌜ DecodesBytes context (now (source .entry)) (now (text .entry)) (now (errors .entry)) r (now (text .exit))
+        (now (errors .exit)) ⌝ }
+{
+    let answer = unread(context, source, text.len(), errors.len() / 4);
+    let place = answer.place;
+    if answer.answer == 0 {
+        return read_covered_bytes(context, source, text, errors, 0, 0);
     }
+    if answer.answer == 7 {
+        return read_covered_bytes(context, &source[..place as usize], text, errors, 7, place);
+    }
+    answer
 }

@@ -16,7 +16,7 @@ use Rattle.standard.specs.Errors.{numbers}
 use Rattle.standard.specs.NameList.{builtin}
 use Rattle.standard.specs.Reading.{stopOf, covered, readable, pieces, Reading, decode}
 use Rattle.standard.proofs.Choice.{no-way}
-use Rattle.standard.proofs.Puts.{numbers-length}
+use Rattle.standard.proofs.Puts.{numbers-length, laid-plainly}
 use Rattle.standard.proofs.Stops.{stop-place, stop-done, OneOf, stops-with}
 use Rattle.checker.specs.declared.checking.Checked.{Checked}
 use Rattle.checker.specs.Transcript.{rowsOf, Left, left, total, right, remains, Verdict, judge, checked, checkedOf}
@@ -199,11 +199,14 @@ module _ (context : Context) (source : List ℕ) (short : length source ≤ 6553
 
         go : OneOf (stopOf context source .answer) → Accepted c
         go (inl e) =
-            passes done 0 (whole-answers.line-0 context source text errors d text′ errors′ decodes .so (short, (text-room, error-room), e))
+            passes done 0
+            (whole-answers.line-0 laid-plainly (length errors) context source text errors d text′ errors′ decodes .so
+            (short, (text-room, error-room), e))
             (omega (arith, covered-length, stop-done context source e))
         go (inr (inl e)) = no-way (sym (rw e at reads))
         go (inr (inr (inl e))) = no-way (sym (rw e at reads))
         go (inr (inr (inr e))) =
             passes context-end (stopOf context source .place)
-            (whole-answers.line-7 context source text errors d text′ errors′ decodes .so (short, (text-room, error-room), e))
+            (whole-answers.line-7 laid-plainly (length errors) context source text errors d text′ errors′ decodes .so
+            (short, (text-room, error-room), e))
             (sym covered-length)

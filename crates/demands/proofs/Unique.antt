@@ -8,6 +8,8 @@ use denote.Triple.Clauses.{AtExit}
 use borrow.Fn.Kinds.{PK, RK, Dens, resT, endedOf, Out}
 use Rattle.decoder.proofs.decode_whole.Kinds as decode-whole-kinds
 use Rattle.decoder.proofs.decode_whole.Reads as decode-whole-reads
+use Rattle.decoder.proofs.decode_bytes.Kinds as decode-bytes-kinds
+use Rattle.decoder.proofs.decode_bytes.Reads as decode-bytes-reads
 use Rattle.decoder.proofs.stream.Stream.new.Kinds as new-kinds
 use Rattle.decoder.proofs.stream.Stream.new.Reads as new-reads
 use Rattle.decoder.proofs.stream.Stream.feed.Kinds as feed-kinds
@@ -24,6 +26,8 @@ use Rattle.reporting.proofs.report.Kinds as report-kinds
 use Rattle.reporting.proofs.report.Reads as report-reads
 use Rattle.rooms.proofs.copy.Kinds as copy-kinds
 use Rattle.rooms.proofs.copy.Reads as copy-reads
+use Rattle.rooms.proofs.put_numbers.Kinds as put-numbers-kinds
+use Rattle.rooms.proofs.put_numbers.Reads as put-numbers-reads
 use Rattle.standard.proofs.characters.read_char.Kinds as read-char-kinds
 use Rattle.standard.proofs.characters.read_char.Reads as read-char-reads
 use Rattle.standard.proofs.names.longest_name.Kinds as longest-name-kinds
@@ -73,10 +77,20 @@ FixesLent n ps r B lent ensures =
 pub copy : FixesLent 2 copy-kinds.ps copy-kinds.r (List ℕ) (λ κs e. e .1 .0 .now) copy-reads.Post
 copy κs a x y e f p q = (only (p .next-is) (q .next-is), only (p .new-is) (q .new-is))
 
+pub put-numbers : FixesLent 2 put-numbers-kinds.ps put-numbers-kinds.r (List ℕ) (λ κs e. e .1 .0 .now) put-numbers-reads.Post
+put-numbers κs a x y e f p q = (only (p .next-is) (q .next-is), only (p .new-is) (q .new-is))
+
 -- The answer, the text room and the error room.
 pub decode-whole : FixesLent 3 decode-whole-kinds.ps decode-whole-kinds.r (List ℕ × List ℕ)
     (λ κs e. (e .1 .1 .0 .now, e .1 .1 .1 .0 .now)) decode-whole-reads.Post
 decode-whole κs a x y e f p q = (
+  only (p .answered) (q .answered),
+  λ i. (only (p .texts) (q .texts) i, only (p .numbers-of) (q .numbers-of) i),
+)
+
+pub decode-bytes : FixesLent 3 decode-bytes-kinds.ps decode-bytes-kinds.r (List ℕ × List ℕ)
+    (λ κs e. (e .1 .1 .0 .now, e .1 .1 .1 .0 .now)) decode-bytes-reads.Post
+decode-bytes κs a x y e f p q = (
   only (p .answered) (q .answered),
   λ i. (only (p .texts) (q .texts) i, only (p .numbers-of) (q .numbers-of) i),
 )

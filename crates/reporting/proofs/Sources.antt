@@ -64,11 +64,11 @@ module _ {context : Context} {s out errors out′ errors′ : List ℕ} {r : Dec
     -- The answer is why the source stops.
     answers : answerOf context s (length out) (length errors) ≡ stopOf context s .answer
     answers =
-        stops-so context s out errors (omega (arith, call .short)) (omega (arith, call .short, call .rooms .bytes-there))
-        (omega (arith, call .short, call .rooms .numbers-there))
+        stops-so context s (length out) (length errors) (omega (arith, call .short))
+        (omega (arith, call .short, call .rooms .bytes-there), omega (arith, call .short, call .rooms .numbers-there))
 
     stops-as : r .answer ≡ stopOf context s .answer
-    stops-as = answer-is context s out errors (call .decodes) ∙ answers
+    stops-as = answer-is (length errors) context s out errors (call .decodes) ∙ answers
 
     -- A source was read if both were written and are counted.
     read-so : readable context s ≡ true → r .text ≡ length (readingOf context s .text) → r .errors ≡ length (readingOf context s .errors)
@@ -86,7 +86,8 @@ module _ {context : Context} {s out errors out′ errors′ : List ℕ} {r : Dec
     pub read-end : r .answer ≡ done → Read context s out errors r out′ errors′
     read-end e =
         let f = sym stops-as ∙ e in
-        let w = answer-says context s out errors done (answers ∙ f) (call .decodes) in read-so (rw f) (rw (w .0)) (rw (w .0)) (w .1) (w .2)
+        let w = answer-says (length errors) context s out errors done (answers ∙ f) (call .decodes) in
+        read-so (rw f) (rw (w .0)) (rw (w .0)) (w .1) (w .2)
 
     pub closing-end : r .answer ≡ done → closingLine (stopOf context s) (length s) ≡ line (bytes "end " ++ decimal (length s))
     unfolding closingLine
@@ -96,13 +97,14 @@ module _ {context : Context} {s out errors out′ errors′ : List ℕ} {r : Dec
     pub read-left : r .answer ≡ context-end → Read context s out errors r out′ errors′
     read-left e =
         let f = sym stops-as ∙ e in
-        let w = answer-says context s out errors context-end (answers ∙ f) (call .decodes) in read-so (rw f) (rw (w .0)) (rw (w .0)) (w .1) (w .2)
+        let w = answer-says (length errors) context s out errors context-end (answers ∙ f) (call .decodes) in
+        read-so (rw f) (rw (w .0)) (rw (w .0)) (w .1) (w .2)
 
     pub closing-left : r .answer ≡ context-end → closingLine (stopOf context s) (length s) ≡ line (bytes "left " ++ decimal (r .place))
     unfolding closingLine
     closing-left e =
         let f = sym stops-as ∙ e in
-        let w = answer-says context s out errors context-end (answers ∙ f) (call .decodes) in rw (f, w .0)
+        let w = answer-says (length errors) context s out errors context-end (answers ∙ f) (call .decodes) in rw (f, w .0)
 
     -- Of any other nothing was written, and its last line is its report.
     pub refused-so : (r .answer ≡ done → ⊥) → (r .answer ≡ context-end → ⊥) → (out′ ≡ out) × (errors′ ≡ errors)
@@ -113,8 +115,12 @@ module _ {context : Context} {s out errors out′ errors′ : List ℕ} {r : Dec
         go : OneOf (stopOf context s .answer) → (out′ ≡ out) × (errors′ ≡ errors)
             × (sourceReport context s ≡ line (bytes "refused " ++ pair (r .answer) (r .place))) × (sourceErrors context s ≡ [])
         go (inl k) = absurd (x (stops-as ∙ k))
-        go (inr (inl k)) = let w = answer-says context s out errors 1 (answers ∙ k) (call .decodes) in (w .1, w .2, rw (k, w .0), rw k)
-        go (inr (inr (inl k))) = let w = answer-says context s out errors 2 (answers ∙ k) (call .decodes) in (w .1, w .2, rw (k, w .0), rw k)
+        go (inr (inl k)) =
+            let w = answer-says (length errors) context s out errors 1 (answers ∙ k) (call .decodes) in
+            (w .1, w .2, rw (k, w .0), rw k)
+        go (inr (inr (inl k))) =
+            let w = answer-says (length errors) context s out errors 2 (answers ∙ k) (call .decodes) in
+            (w .1, w .2, rw (k, w .0), rw k)
         go (inr (inr (inr k))) = absurd (y (stops-as ∙ k))
 
     -- Its line has room.

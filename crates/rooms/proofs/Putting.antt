@@ -1,15 +1,17 @@
 -- Laws of writing a list into a room element by element, and of the part of a list that fits.
-use Prim.Native.Nat.{ℕ, _+_, _-_, _≤_, _<_, min}
+use Prim.Native.Nat.{ℕ, _+_, _≤_, _<_, min}
 use mathlib.Core.Path.{_≡_, refl, sym, _∙_, ap}
-use mathlib.Core.List.{List}
+use mathlib.Core.List.{List, [], _∷_, append-nil}
 use mathlib.Core.Logic.{⊎-elim}
 use native.Mathlib.Nat.{add-zero, add-assoc}
+use native.Mathlib.Numerals.{add-one}
 use native.Mathlib.Omega.{arith}
 use lib.ListN.{length, getD, take, drop, set, length-set}
-use lib.Seq.{sets, take-all, take-add}
-use Rattle.standard.specs.Rooms.{Put}
+use lib.Seq.{sets, take-all, take-add, take-suc}
+use Rattle.standard.specs.Names.{fourBytes}
+use Rattle.standard.specs.Rooms.{Put, fours}
 use Rattle.standard.proofs.Choice.{below?}
-use Rattle.standard.proofs.Puts.{sets-drop, sets-done, put-join}
+use Rattle.standard.proofs.Puts.{sets-drop, sets-done, put-join, laid-fours}
 
 -- With the values from i on the room will hold what it would with them all.
 pub record Putting (old values : List ℕ) (at : ℕ) (new : List ℕ) (i : ℕ) : Type 0 where
@@ -41,6 +43,15 @@ putting-done {old} {values} {new} {at} {i} h p = record {
 pub put-next : {old mid new : List ℕ} {at m next : ℕ} (from : List ℕ) (i n : ℕ) → Put old at (take i from) mid m
     → Put mid m (take n (drop i from)) new next → Put old at (take (i + n) from) new next
 put-next from i n a b = rw (take-add i n from) (put-join a b)
+
+-- The next number is written after the first i of them.
+pub put-number-next : {old mid new : List ℕ} {at m next : ℕ} (numbers : List ℕ) (i : ℕ) → i < length numbers
+    → Put old at (fours (take i numbers)) mid m → Put mid m (fourBytes (getD numbers i 0)) new next
+    → Put old at (fours (take (i + 1) numbers)) new next
+unfolding fours
+put-number-next numbers i h a b =
+    rw (add-one i, take-suc numbers i 0 h, laid-fours .join (take i numbers) (getD numbers i 0 ∷ []), append-nil (fourBytes (getD numbers i 0)))
+    (put-join a b)
 
 -- As many elements as the lesser of a list's length and n are as many as n, if they are there.
 pub take-least : (n : ℕ) (l : List ℕ) → take (min n (length l)) l ≡ take n l

@@ -1,8 +1,9 @@
-// Writing bytes into lent rooms.
+// Writing into lent rooms of bytes.
 ghost use mathlib.Core.Path.{_≡_};
-ghost use Prim.Native.Nat.{_≤_, _+_, _-_, min};
+ghost use Prim.Native.Nat.{_≤_, _+_, _-_, _/_, min};
 ghost use lib.ListN.{length, take, drop};
-ghost use Rattle.standard.specs.Rooms.{Put};
+ghost use Rattle.standard.specs.Names.{fourBytes};
+ghost use Rattle.standard.specs.Rooms.{Put, fours};
 
 // The lesser of two numbers.
 fn least(a: usize, b: usize) -> usize
@@ -70,4 +71,33 @@ pub fn copy(from: &[u8], to: &mut [u8], at: usize) -> usize
         i += 32;
     }
     put_bytes(&from[i..count], to, next)
+}
+
+// A number as four bytes, the lowest first.
+fn put_number(to: &mut [u8], at: usize, number: u32) -> usize
+    requires { ⌜ at + 4 ≤ length (now to) ⌝ }
+    ensures { λ r. ⌜ Put (now (to .entry)) at (fourBytes number) (now (to .exit)) r ⌝ }
+{
+    to[at] = (number % 256) as u8;
+    to[at + 1] = (number / 256 % 256) as u8;
+    to[at + 2] = (number / 65536 % 256) as u8;
+    to[at + 3] = (number / 16777216 % 256) as u8;
+    at + 4
+}
+
+// Writes as many of the numbers as fit whole into `to` from `at` on, and answers the place after them; all else stays.
+pub fn put_numbers(numbers: &[u32], to: &mut [u8], at: usize) -> usize
+    ensures { λ r. ⌜ Put (now (to .entry)) at (fours (take ((length (now (to .entry)) - at) / 4) (now (numbers .entry)))) (now (to .exit)) r ⌝ }
+{
+    if to.len() < at {
+        return at;
+    }
+    let count = least((to.len() - at) / 4, numbers.len());
+    let mut i: usize = 0;
+    let mut next = at;
+    while i < count {
+        next = put_number(to, next, numbers[i]);
+        i += 1;
+    }
+    next
 }

@@ -1,5 +1,5 @@
 -- Laws of writing into a room: what two writers one after the other write is what one would.
-use Prim.Native.Nat.{ℕ, suc, _+_, _≤_, _<_}
+use Prim.Native.Nat.{ℕ, suc, _+_, _*_, _≤_, _<_}
 use mathlib.Core.Path.{_≡_, refl, sym, _∙_, ap}
 use mathlib.Core.List.{List, [], _∷_, _++_, append-assoc, append-nil}
 use native.Mathlib.Omega.{arith}
@@ -8,7 +8,7 @@ use lib.ListN.{length, getD, drop, set, length-append, drop-of-length-le}
 use lib.Seq.{drop-cons, sets, length-sets}
 use Rattle.standard.specs.Errors.{Error, numbers}
 use Rattle.standard.specs.Reading.{Reading, reading, _⊕_}
-use Rattle.standard.specs.Rooms.{Put, Wrote}
+use Rattle.standard.specs.Rooms.{Put, plainly, fours, WroteBy, Wrote}
 
 -- Joined values are written one after the other.
 pub sets-append : (l : List ℕ) (i : ℕ) (u v : List ℕ) → sets l i (u ++ v) ≡ sets (sets l i u) (i + length u) v
@@ -56,24 +56,59 @@ unfolding numbers
 numbers-length [] = refl
 numbers-length (e ∷ a) = omega (arith, numbers-length a)
 
--- No reading is written.
-pub wrote-none : (text : List ℕ) (w : ℕ) (errors : List ℕ) (e : ℕ) → Wrote (reading [] []) text w text w errors e errors e
-unfolding numbers
-wrote-none text w errors e = record { texts = put-none text w; numbers-of = put-none errors e }
+-- A way to lay numbers: none as none, joined ones one after the other, and width values for each.
+pub record Laying (width : ℕ) (lay : List ℕ → List ℕ) : Type 0 where
+  pub none : lay [] ≡ []
+  pub join : (a b : List ℕ) → lay (a ++ b) ≡ lay a ++ lay b
+  pub long : (a : List ℕ) → length (lay a) ≡ width * length a
 
--- Text alone is written.
+pub laid-plainly : Laying 1 plainly
+laid-plainly = record { none = refl; join = λ a b. refl; long = λ a. omega arith }
+
+pub laid-fours : Laying 4 fours
+unfolding fours
+laid-fours = record { none = refl; join = join; long = long }
+  where
+    join : (a b : List ℕ) → fours (a ++ b) ≡ fours a ++ fours b
+    join [] b = refl
+    join (n ∷ a) b = rw (join a b)
+
+    long : (a : List ℕ) → length (fours a) ≡ 4 * length a
+    long [] = refl
+    long (n ∷ a) = omega (arith, long a)
+
+module _ {width : ℕ} {lay : List ℕ → List ℕ} (laid : Laying width lay) where
+  -- No reading is written.
+  pub by-none : (text : List ℕ) (w : ℕ) (errors : List ℕ) (e : ℕ) → WroteBy lay (reading [] []) text w text w errors e errors e
+  unfolding numbers
+  by-none text w errors e = record { texts = put-none text w; numbers-of = rw (laid .none) (put-none errors e) }
+
+  -- Text alone is written.
+  pub by-text : {t text text′ : List ℕ} {w w′ : ℕ} (errors : List ℕ) (e : ℕ) → Put text w t text′ w′
+      → WroteBy lay (reading t []) text w text′ w′ errors e errors e
+  unfolding numbers
+  by-text errors e p = record { texts = p; numbers-of = rw (laid .none) (put-none errors e) }
+
+  -- Two readings are written one after the other.
+  pub by-join : {a b : Reading} {t t′ t″ : List ℕ} {w w′ w″ : ℕ} {n n′ n″ : List ℕ} {e e′ e″ : ℕ} → WroteBy lay a t w t′ w′ n e n′ e′
+      → WroteBy lay b t′ w′ t″ w″ n′ e′ n″ e″ → WroteBy lay (a ⊕ b) t w t″ w″ n e n″ e″
+  by-join {a} {b} x y = record {
+    texts = put-join (x .texts) (y .texts);
+    numbers-of = rw (numbers-append (a .errors) (b .errors), laid .join (numbers (a .errors)) (numbers (b .errors)))
+        (put-join (x .numbers-of) (y .numbers-of));
+  }
+
+-- The same three in a room of numbers.
+pub wrote-none : (text : List ℕ) (w : ℕ) (errors : List ℕ) (e : ℕ) → Wrote (reading [] []) text w text w errors e errors e
+wrote-none = by-none laid-plainly
+
 pub wrote-text : {t text text′ : List ℕ} {w w′ : ℕ} (errors : List ℕ) (e : ℕ) → Put text w t text′ w′
     → Wrote (reading t []) text w text′ w′ errors e errors e
-unfolding numbers
-wrote-text errors e p = record { texts = p; numbers-of = put-none errors e }
+wrote-text = by-text laid-plainly
 
--- Two readings are written one after the other.
 pub wrote-join : {a b : Reading} {t t′ t″ : List ℕ} {w w′ w″ : ℕ} {n n′ n″ : List ℕ} {e e′ e″ : ℕ} → Wrote a t w t′ w′ n e n′ e′
     → Wrote b t′ w′ t″ w″ n′ e′ n″ e″ → Wrote (a ⊕ b) t w t″ w″ n e n″ e″
-wrote-join {a} {b} {t} {t′} {t″} {w} {w′} {w″} {n} {n′} {n″} {e} {e′} {e″} x y = record {
-  texts = put-join (x .texts) (y .texts);
-  numbers-of = rw (numbers-append (a .errors) (b .errors)) (put-join (x .numbers-of) (y .numbers-of));
-}
+wrote-join = by-join laid-plainly
 
 -- Joining readings is associative.
 pub ⊕-assoc : (a b c : Reading) → (a ⊕ b) ⊕ c ≡ a ⊕ (b ⊕ c)

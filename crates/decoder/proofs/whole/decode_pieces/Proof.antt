@@ -4,20 +4,22 @@ use native.Mathlib.Omega.{arith}
 use lib.ListN.{length, length-drop}
 use borrow.Author.Needs.{needs}
 use Rattle.standard.specs.NameList.{builtin}
-use Rattle.standard.proofs.Skips.{rest-from}
+use Rattle.standard.specs.Rooms.{plainly}
 use Rattle.standard.proofs.Narrow.{builtin-narrow}
+use Rattle.standard.proofs.Puts.{laid-plainly}
+use Rattle.standard.proofs.Skips.{rest-from}
 use Rattle.decoder.proofs.Walk.{Going, going-start, going-room, going-end, turn-run, turn-piece, run-there, piece-some}
 use Rattle.decoder.proofs.whole.decode_pieces.Statement.{statement}
 use Rattle.decoder.proofs.whole.decode_pieces.Tie as tie
 
 abbrev Inv-loop : tie.InvT-loop
-Inv-loop table context s text₀ errors₀ at₀ w₀ e₀ text errors at w e = Going builtin context s text₀ errors₀ at text w errors e
+Inv-loop table context s text₀ errors₀ at₀ w₀ e₀ text errors at w e = Going plainly builtin context s text₀ errors₀ at text w errors e
 
 abbrev μ-loop : tie.MeasureT-loop
 μ-loop table context s text₀ errors₀ at₀ w₀ e₀ text errors at w e = length s - at
 
 loop-holds : tie.Need-loop-holds Inv-loop μ-loop
-loop-holds c = going-start
+loop-holds c = going-start laid-plainly
 
 plain-run-requires : tie.Need-plain-run-requires Inv-loop μ-loop
 plain-run-requires c κs = c .before .loop .inv .there
@@ -31,7 +33,7 @@ part-copy-start c = omega (arith, c .plain-run .ensures)
 part-copy-end : tie.Need-part-copy-end Inv-loop μ-loop
 part-copy-end c =
     let l = c .before .before in
-    omega (arith, run-there (l .before .before .before .before .before .pre .2) (l .loop .inv) (c .plain-run .ensures))
+    omega (arith, run-there laid-plainly (l .before .before .before .before .before .pre .2) (l .loop .inv) (c .plain-run .ensures))
 
 copy-requires : tie.Need-copy-requires Inv-loop μ-loop
 copy-requires c κs = search needs
@@ -39,35 +41,39 @@ copy-requires c κs = search needs
 same-length : tie.Need-same-length Inv-loop μ-loop
 same-length c =
     let t = c in
+    let f = t .before .before .before .before .before .before .plain-run in
     let l = t .before .before .before .before .before .before .before .before in
     let a = l .before .before .before .before .before in
-    going-room (turn-run (a .pre .2) (l .loop .inv) (t .before .before .before .before .before .before .plain-run .ensures)
-    (t .before .before .before .copy .ensures)) builtin-narrow .2
+    let g = turn-run laid-plainly (a .pre .2) (l .loop .inv) (f .ensures) (t .before .before .before .copy .ensures) in
+    going-room laid-plainly g builtin-narrow .2
 
 same-length-2 : tie.Need-same-length-2 Inv-loop μ-loop
-same-length-2 c = going-room (c .before .before .before .before .before .before .before .before .loop .inv) builtin-narrow .3
+same-length-2 c = going-room laid-plainly (c .before .before .before .before .before .before .before .before .loop .inv) builtin-narrow .3
 
 returns : tie.Need-returns Inv-loop μ-loop
 returns c =
     let t = c in
+    let f = t .before .before .before .before .before .before .plain-run in
     let l = t .before .before .before .before .before .before .before .before in
     let a = l .before .before .before .before .before in
-    going-end (turn-run (a .pre .2) (l .loop .inv) (t .before .before .before .before .before .before .plain-run .ensures)
-    (t .before .before .before .copy .ensures)) (omega arith)
+    let g = turn-run laid-plainly (a .pre .2) (l .loop .inv) (f .ensures) (t .before .before .before .copy .ensures) in
+    going-end laid-plainly g (omega arith)
 
 sub-piece-at : tie.Need-sub-piece-at Inv-loop μ-loop
 sub-piece-at c =
     let t = c in
+    let f = t .before .before .before .before .before .before .plain-run in
     let l = t .before .before .before .before .before .before .before .before in
     let a = l .before .before .before .before .before in
-    run-there (a .pre .2) (l .loop .inv) (t .before .before .before .before .before .before .plain-run .ensures)
+    run-there laid-plainly (a .pre .2) (l .loop .inv) (f .ensures)
 
 part-piece-at-start : tie.Need-part-piece-at-start Inv-loop μ-loop
 part-piece-at-start c =
     let t = c in
+    let f = t .before .before .before .before .before .before .plain-run in
     let l = t .before .before .before .before .before .before .before .before in
     let a = l .before .before .before .before .before in
-    omega (arith, run-there (a .pre .2) (l .loop .inv) (t .before .before .before .before .before .before .plain-run .ensures))
+    omega (arith, run-there laid-plainly (a .pre .2) (l .loop .inv) (f .ensures))
 
 part-piece-at-end : tie.Need-part-piece-at-end Inv-loop μ-loop
 part-piece-at-end c = search needs
@@ -75,82 +81,67 @@ part-piece-at-end c = search needs
 piece-at-requires : tie.Need-piece-at-requires Inv-loop μ-loop
 piece-at-requires c κs =
     let t = c .before in
+    let f = t .before .before .before .before .before .before .plain-run in
     let l = t .before .before .before .before .before .before .before .before in
     let a = l .before .before .before .before .before in
-    let h = run-there (a .pre .2) (l .loop .inv) (t .before .before .before .before .before .before .plain-run .ensures) in
+    let h = run-there laid-plainly (a .pre .2) (l .loop .inv) (f .ensures) in
     rw rest-from (simp length-drop (omega arith))
 
 cast-put-piece : tie.Need-cast-put-piece Inv-loop μ-loop
 cast-put-piece c =
     let t = c .before .before .before .before in
+    let f = t .before .before .before .before .before .before .plain-run in
     let l = t .before .before .before .before .before .before .before .before in
     let a = l .before .before .before .before .before in
-    omega (arith, a .pre .1, run-there (a .pre .2) (l .loop .inv) (t .before .before .before .before .before .before .plain-run .ensures))
+    omega (arith, a .pre .1, run-there laid-plainly (a .pre .2) (l .loop .inv) (f .ensures))
 
 put-piece-requires : tie.Need-put-piece-requires Inv-loop μ-loop
 put-piece-requires c κs =
     let t = c .before .before .before .before in
+    let f = t .before .before .before .before .before .before .plain-run in
     let l = t .before .before .before .before .before .before .before .before in
     let a = l .before .before .before .before .before in
-    let r = going-room (turn-run (a .pre .2) (l .loop .inv) (t .before .before .before .before .before .before .plain-run .ensures)
-    (t .before .before .before .copy .ensures)) builtin-narrow in
+    let g = turn-run laid-plainly (a .pre .2) (l .loop .inv) (f .ensures) (t .before .before .before .copy .ensures) in
+    let r = going-room laid-plainly g builtin-narrow in
     (omega (arith, r .0, r .2, a .pre .2), omega (arith, r .1, r .3, a .pre .3))
-
-add-at : tie.Need-add-at Inv-loop μ-loop
-add-at c =
-    let t = c .before .before .before .before .before .before .before .before .before .before in
-    let l = t .before .before .before .before .before .before .before .before in
-    let a = l .before .before .before .before .before in
-    let h = run-there (a .pre .2) (l .loop .inv) (t .before .before .before .before .before .before .plain-run .ensures) in
-    let more : t .before .before .before .before .before .before .plain-run .result < length (a .args .s .now) = omega arith in
-    let q = c .before .before .before .before .before .before .before .before .piece-at in
-    omega (
-      arith,
-      a .pre .1,
-      turn-piece (a .pre .2) (q .result)
-          (turn-run (a .pre .2) (l .loop .inv) (t .before .before .before .before .before .before .plain-run .ensures)
-          (t .before .before .before .copy .ensures)) (a .pre .0) (q .ensures) more
-          (c .before .before .before .before .before .put-piece .ensures .0) .there,
-    )
-
-loop-less : tie.Need-loop-less Inv-loop μ-loop
-loop-less c =
-    let t = c .before .before .before .before .before .before .before .before .before .before in
-    let l = t .before .before .before .before .before .before .before .before in
-    let a = l .before .before .before .before .before in
-    let h = run-there (a .pre .2) (l .loop .inv) (t .before .before .before .before .before .before .plain-run .ensures) in
-    let more : t .before .before .before .before .before .before .plain-run .result < length (a .args .s .now) = omega arith in
-    let q = c .before .before .before .before .before .before .before .before .piece-at in
-    omega (
-      arith,
-      turn-piece (a .pre .2) (q .result)
-          (turn-run (a .pre .2) (l .loop .inv) (t .before .before .before .before .before .before .plain-run .ensures)
-          (t .before .before .before .copy .ensures)) (a .pre .0) (q .ensures) more
-          (c .before .before .before .before .before .put-piece .ensures .0) .there,
-      piece-some (a .args .context) (a .args .s .now)
-          (t .before .before .before .before .before .before .plain-run .result) (q .result) (a .pre .0) (q .ensures) more,
-    )
 
 loop-again : tie.Need-loop-again Inv-loop μ-loop
 loop-again c =
     let t = c .before .before .before .before .before .before .before .before .before .before in
+    let f = t .before .before .before .before .before .before .plain-run in
     let l = t .before .before .before .before .before .before .before .before in
     let a = l .before .before .before .before .before in
-    let h = run-there (a .pre .2) (l .loop .inv) (t .before .before .before .before .before .before .plain-run .ensures) in
-    let more : t .before .before .before .before .before .before .plain-run .result < length (a .args .s .now) = omega arith in
+    let h = run-there laid-plainly (a .pre .2) (l .loop .inv) (f .ensures) in
+    let more : f .result < length (a .args .s .now) = omega arith in
+    let g = turn-run laid-plainly (a .pre .2) (l .loop .inv) (f .ensures) (t .before .before .before .copy .ensures) in
     let q = c .before .before .before .before .before .before .before .before .piece-at in
-    turn-piece (a .pre .2) (q .result)
-    (turn-run (a .pre .2) (l .loop .inv) (t .before .before .before .before .before .before .plain-run .ensures)
-    (t .before .before .before .copy .ensures)) (a .pre .0) (q .ensures) more (c .before .before .before .before .before .put-piece .ensures .0)
+    turn-piece laid-plainly (a .pre .2) (q .result) g (a .pre .0) (q .ensures) more (c .before .before .before .before .before .put-piece .ensures .0)
+
+add-at : tie.Need-add-at Inv-loop μ-loop
+add-at c =
+    let m = c .before .before .before .before .before .before .before .before .before .before .before in
+    let a = m .before .before .before .before .before .before .before .before .before .before .before .before in
+    omega (arith, a .pre .1, loop-again c .there)
+
+loop-less : tie.Need-loop-less Inv-loop μ-loop
+loop-less c =
+    let t = c .before .before .before .before .before .before .before .before .before .before in
+    let f = t .before .before .before .before .before .before .plain-run in
+    let a = t .before .before .before .before .before .before .before .before .before .before .before .before .before in
+    let q = c .before .before .before .before .before .before .before .before .piece-at in
+    let h = run-there laid-plainly (a .pre .2) (t .before .before .before .before .before .before .before .before .loop .inv) (f .ensures) in
+    let more : f .result < length (a .args .s .now) = omega arith in
+    let some = piece-some (a .args .context) (a .args .s .now) (f .result) (q .result) (a .pre .0) (q .ensures) more in
+    omega (arith, f .ensures, loop-again c .there, some)
 
 same-length-3 : tie.Need-same-length-3 Inv-loop μ-loop
-same-length-3 c = going-room (c .before .loop .inv) builtin-narrow .2
+same-length-3 c = going-room laid-plainly (c .before .loop .inv) builtin-narrow .2
 
 same-length-4 : tie.Need-same-length-4 Inv-loop μ-loop
-same-length-4 c = going-room (c .before .loop .inv) builtin-narrow .3
+same-length-4 c = going-room laid-plainly (c .before .loop .inv) builtin-narrow .3
 
 returns-2 : tie.Need-returns-2 Inv-loop μ-loop
-returns-2 c = going-end (c .before .loop .inv) (omega arith)
+returns-2 c = going-end laid-plainly (c .before .loop .inv) (omega arith)
 
 pub decode-pieces-spec : {M : Type 1} → statement M
 decode-pieces-spec =

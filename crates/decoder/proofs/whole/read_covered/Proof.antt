@@ -1,4 +1,5 @@
 use native.Mathlib.Omega.{arith}
+use Rattle.standard.proofs.Puts.{laid-plainly}
 use Rattle.decoder.proofs.Answering.{reads-of, wrote-few}
 use borrow.Author.Needs.{needs}
 use Rattle.decoder.proofs.whole.read_covered.Statement.{statement}
@@ -16,14 +17,18 @@ decode-pieces-requires c κs = search needs
 cast-t16 : tie.Need-cast-t16
 cast-t16 c =
     let a = c .before .before .before .before .before .before .before .before .before .before .before .before .before in
-    omega (arith, wrote-few (a .args .context) (a .args .s .now) (a .pre .0) (c .before .before .before .before .before .decode-pieces .ensures))
+    omega (
+      arith,
+      wrote-few laid-plainly (a .args .context) (a .args .s .now) (a .pre .0)
+          (c .before .before .before .before .before .decode-pieces .ensures),
+    )
 
 cast-t18 : tie.Need-cast-t18
 cast-t18 c =
     let a = c .before .before .before .before .before .before .before .before .before .before .before .before .before .before in
     omega (
       arith,
-      wrote-few (a .args .context) (a .args .s .now) (a .pre .0)
+      wrote-few laid-plainly (a .args .context) (a .args .s .now) (a .pre .0)
           (c .before .before .before .before .before .before .decode-pieces .ensures),
     )
 
@@ -34,7 +39,10 @@ same-length-2 : tie.Need-same-length-2
 same-length-2 c = search needs
 
 returns : tie.Need-returns
-returns c = reads-of (c .before .before .before .before .before .before .decode-pieces .ensures)
+returns c =
+    let a = c .before .before .before .before .before .before .before .before .before .before .before .before .before .before in
+    let d = c .before .before .before .before .before .before .decode-pieces .ensures in
+    reads-of _ (omega (arith, wrote-few laid-plainly (a .args .context) (a .args .s .now) (a .pre .0) d)) d
 
 pub read-covered-spec : {M : Type 1} → statement M
 read-covered-spec =
