@@ -14,7 +14,7 @@ use Rattle.standard.specs.Names.{tableOf, records}
 use Rattle.standard.specs.Reading.{stopOf}
 use Rattle.standard.proofs.BuiltinNames.{table-read}
 use Rattle.checker.specs.declared.checking.Checked.{Checked}
-use Rattle.checker.specs.declared.rows.Verdict as code
+use Rattle.checker.specs.declared.verdicts.Verdict as code
 use Rattle.checker.specs.Transcript.{right, Verdict, verdict, verdictOn, checked, checkedOf, words, checkedBytes}
 use Rattle.checker.specs.Meeting.{Verdicts}
 

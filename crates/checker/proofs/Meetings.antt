@@ -16,7 +16,7 @@ use Rattle.standard.specs.declared.characters.CharRead.the-variants.{Char}
 use Rattle.standard.proofs.characters.CharRead.{the-type}
 use Rattle.standard.specs.Utf8.{readChar, written, encode}
 use Rattle.standard.specs.Names.{stands, word32}
-use Rattle.standard.proofs.Choice.{no-way, test?}
+use Rattle.standard.proofs.Choice.{if-both, no-way, test?}
 use Rattle.standard.proofs.Narrow.{stands-fits}
 use Rattle.standard.proofs.RoundTrip.{encode-octets, encode-scalar}
 use Rattle.standard.proofs.Back.{read-back}
@@ -83,6 +83,11 @@ module _ {met : Met} {l : List ℕ} (there : met .at ≤ length l) where
     at-is = λ f. is;
     there = omega (arith, stands-fits values (drop (met .at) l) e, length-drop (met .at) l);
   }
+
+-- What was met, where its parts are known.
+pub meets-known : {met r : Met} {values l : List ℕ} {at : ℕ} → Meets met values l r → r .right ≡ true → r .at ≡ at
+    → Meets met values l (met-at true at)
+meets-known w right is = record { right-is = sym right ∙ w .right-is; at-is = λ f. sym is ∙ w .at-is right; there = rw is at (w .there) }
 
 -- One after the other.
 pub meets-join : {m m′ m″ : Met} {a b l : List ℕ} → Meets m a l m′ → Meets m′ b l m″ → Meets m (a ++ b) l m″
@@ -159,6 +164,12 @@ words-at (a ∷ b ∷ c ∷ d ∷ l) zero h = refl
 words-at (a ∷ b ∷ c ∷ d ∷ l) (suc i) h =
     words-at l i (omega arith) ∙ word-drop 4 (a ∷ b ∷ c ∷ d ∷ l) (4 * i)
     ∙ ap (word32 (a ∷ b ∷ c ∷ d ∷ l)) (let e : 4 + 4 * i ≡ 4 * suc i = omega arith in e)
+
+-- Numbers that are lent: no more than words and bytes.
+pub lent-length : (numbers bytes : List ℕ) → length (lent numbers bytes) ≤ length numbers + length bytes
+lent-length numbers bytes =
+    if-both (λ (l : List ℕ). length l ≤ length numbers + length bytes) (eqb (length numbers) 0) (words bytes) numbers
+    (λ e. omega (arith, words-length bytes)) (λ e. omega arith)
 
 -- Numbers that are lent as bytes, and as words.
 module _ (numbers bytes : List ℕ) (at : ℕ) where

@@ -3,7 +3,7 @@ use Prim.Native.Nat.{ℕ, zero, suc, _+_, _-_, _*_, _%_, _≤_, _<_}
 use mathlib.Core.Path.{_≡_, refl, sym, _∙_, ap}
 use mathlib.Core.List.{List, [], _∷_}
 use mathlib.Core.Bool.{true, false, _&&_, and-false}
-use mathlib.Core.Logic.{_≢_, _⊎_, inl, inr, ⊎-elim}
+use mathlib.Core.Logic.{_≢_, inl, inr, ⊎-elim}
 use native.Mathlib.Omega.{arith}
 use native.Mathlib.Numerals.{add-one}
 use lib.Dec.{eqb}
@@ -14,12 +14,12 @@ use Rattle.standard.specs.declared.Context.{Context}
 use Rattle.standard.specs.Names.{Name}
 use Rattle.standard.specs.Reading.{piecesFrom, pieces}
 use Rattle.standard.proofs.Bounds.{pieces-unfold}
-use Rattle.standard.proofs.Choice.{below?, and-true, test?}
+use Rattle.standard.proofs.Choice.{and-true, test?}
 use Rattle.checker.specs.declared.rows.Judged.{Judged}
-use Rattle.checker.specs.declared.rows.Verdict as code
+use Rattle.checker.specs.declared.verdicts.Verdict as code
 use Rattle.checker.specs.Transcript.{row, rowsOf, Left, right, remains, spent, Verdict, verdict, judge, verdictOn}
 use Rattle.checker.specs.Runs.{Alike, PlainRow, unitRow, UnitRows, PlainRows}
-use Rattle.checker.specs.Meeting.{lent, leftAt, Judges, Verdicts, Ends}
+use Rattle.checker.specs.Meeting.{leftAt, Judges, Verdicts, Ends}
 use Rattle.checker.proofs.RowLaws.{judged-plain}
 
 -- The first of the rows that are left.
@@ -181,35 +181,14 @@ rows-plain {names} {context} {s} {rows} {text} {errors} {next} {i} {at} {t} {e} 
           there = omega arith;
           same = λ j m. let x : at + n ≡ at + n + j = omega arith in let y : t + n ≡ t + n + j = omega arith in rw (x, y) at (same n (omega arith));
         } in
-        let judges = judged-plain (λ z. omega arith) (omega arith) (omega arith) (rest .errors-there) one in
+        let judges : Judges names context s (at + n) text (t + n) errors e (row 1 1 0)
+        (record { reason = right; at = at + n + 1; text = t + n + 1; errors = e }) =
+        judged-plain (λ z. omega arith) (omega arith) (omega arith) (rest .errors-there) one in
         let a : next + 3 * n + 3 ≡ next + 3 * suc n = omega arith in
         let b : i + n + 1 ≡ i + suc n = omega arith in
         let c : at + n + 1 ≡ at + suc n = omega arith in
         let d : t + n + 1 ≡ t + suc n = omega arith in
         rw (a, b, c, d) at (row-on rest (omega arith) (sym (u .0)) (sym (u .1)) (sym (u .2)) judges refl)
-
--- The same where rows are lent as words or as bytes, and there may be none.
-pub rows-plain-lent : {names : List Name} {context : Context} {s text errors : List ℕ} {next i at t e : ℕ} (numbers bytes : List ℕ)
-    → RowByRow names context s (lent numbers bytes) text errors next i at t e → (n : ℕ) → (n ≡ 0) ⊎ PlainRows numbers next s at text t n
-    → RowByRow names context s (lent numbers bytes) text errors (next + 3 * n) (i + n) (at + n) (t + n) e
-rows-plain-lent {names} {context} {s} {text} {errors} {next} {i} {at} {t} {e} numbers bytes w n = ⊎-elim none some
-  where
-    none : n ≡ 0 → RowByRow names context s (lent numbers bytes) text errors (next + 3 * n) (i + n) (at + n) (t + n) e
-    none z = rows-plain w n (record {
-      rows-there = omega (arith, w .next-there);
-      source-there = omega (arith, w .at-there);
-      text-there = omega (arith, w .text-there);
-      units = λ j m. absurd (omega arith);
-      same = λ j m. absurd (omega arith);
-    })
-
-    words : 0 < length numbers → lent numbers bytes ≡ numbers
-    words h = rw (ne-eqb (length numbers) 0 (λ z. omega arith))
-
-    some : PlainRows numbers next s at text t n → RowByRow names context s (lent numbers bytes) text errors (next + 3 * n) (i + n) (at + n) (t + n) e
-    some p =
-        ⊎-elim (λ (h : 0 < length numbers). rows-plain w n (rw (words h) p))
-        (λ (h : length numbers ≤ 0). none (omega (arith, p .rows-there))) (below? 0 (length numbers))
 
 -- A verdict that is known by its parts.
 verdicts-by : {v : Verdict} {r : code.Verdict} {reason at-row : ℕ} → Verdicts v (coded reason at-row) → (r .reason ≡ reason) × (r .row ≡ at-row)

@@ -20,8 +20,8 @@ use Rattle.checker.specs.declared.rows.Joint.{Joint}
 use Rattle.checker.specs.declared.rows.Judged.{Judged}
 use Rattle.checker.specs.Transcript.{row, Left, left, total, reached, right, wrong}
 use Rattle.checker.specs.Runs.{PlainRow}
-use Rattle.checker.specs.Meeting.{so-far, Joins, leftAt, Judges}
-use Rattle.checker.proofs.Walking.{Walking, walk-run, walked}
+use Rattle.checker.specs.Meeting.{so-far, Joins, ByteRow, leftAt, Judges}
+use Rattle.checker.proofs.Walking.{Walking, walk-byte-row, walk-run, walked}
 
 -- The pieces of a source have its bytes.
 pub pieces-total : (names : List Name) (context : Context) (s : List ℕ) → total (pieces names context s) ≡ length s
@@ -182,14 +182,26 @@ module _ (names : List Name) (context : Context) (s : List ℕ) (at : ℕ) (text
                   there = λ z. (omega arith, omega arith, met .text-met .there, met .errors-met .there);
                 }
 
+  -- Before its first piece.
+  start : at ≤ length s → t ≤ length text → e ≤ length errors
+      → Walking names context s (at + n) text errors (Joins ps at (at + n - at) text (so-far t) errors (so-far e)) at (so-far t) (so-far e)
+  start there text-there errors-there = record { there = there; text-there = text-there; errors-there = errors-there; rest = λ r j. j }
+
   -- A row of bytes that the text has too.
   row-plain : n ≢ 0 → n ≤ length s - at → at ≤ length s → e ≤ length errors → PlainRow s at n text t m k
       → Judges names context s at text t errors e (row n m k) (record { reason = right; at = at + n; text = t + n; errors = e })
   row-plain some fits there errors-there p =
-      let start : Walking names context s (at + n) text errors (Joins ps at (at + n - at) text (so-far t) errors (so-far e)) at (so-far t)
-      (so-far e) = record { there = there; text-there = omega (arith, p .there); errors-there = errors-there; rest = λ r j. j } in
-      let joins = walked (walk-run start n (omega arith) (omega arith) (p .there) (p .same)) (omega arith) in
+      let before = start there (omega (arith, p .there)) errors-there in
+      let joins = walked (walk-run before n (omega arith) (omega arith) (p .there) (p .same)) (omega arith) in
       row-right some fits joins refl refl (omega (arith, p .bytes)) refl (omega (arith, p .no-errors)) there
+
+  -- A row of one byte that stands for itself.
+  row-byte : n ≢ 0 → n ≤ length s - at → at ≤ length s → e ≤ length errors → ByteRow s at n text t m errors e k
+      → Judges names context s at text t errors e (row n m k) (record { reason = right; at = at + 1; text = t + 1; errors = e + 2 * k })
+  row-byte some fits there errors-there p =
+      let before = start there (omega (arith, p .there)) errors-there in
+      let joins = walked (walk-byte-row before (omega arith) p) (omega (arith, p .source-byte)) in
+      row-right some fits joins (omega (arith, p .source-byte)) refl (omega (arith, p .text-byte)) refl (omega arith) there
 
   -- A wrong row.
   row-wrong : {reason : ℕ} {r : Judged} → r .reason ≡ reason → 0 < reason → reason ≡ wrong here (row n m k)
@@ -212,6 +224,10 @@ module _ {names : List Name} {context : Context} {s : List ℕ} {at : ℕ} {text
     pub judged-plain : n ≤ length s - at → at ≤ length s → e ≤ length errors → PlainRow s at n text t m k
         → Judges names context s at text t errors e (row n m k) (record { reason = right; at = at + n; text = t + n; errors = e })
     judged-plain = row-plain names context s at text t errors e n m k some
+
+    pub judged-byte : n ≤ length s - at → at ≤ length s → e ≤ length errors → ByteRow s at n text t m errors e k
+        → Judges names context s at text t errors e (row n m k) (record { reason = right; at = at + 1; text = t + 1; errors = e + 2 * k })
+    judged-byte = row-byte names context s at text t errors e n m k some
 
     module _ (fits : n ≤ length s - at) {joint : Joint}
         (joins : Joins (pieces names context (drop at s)) at (at + n - at) text (so-far t) errors (so-far e) joint) where

@@ -1,14 +1,19 @@
 -- Runs: what holds of each of n elements, found one by one or in blocks.
 use Prim.Native.Nat.{ℕ, _+_, _-_, _*_, _≤_, _<_}
-use mathlib.Core.Path.{_≡_, sym, _∙_, subst}
+use mathlib.Core.Path.{_≡_, refl, sym, _∙_, subst}
 use mathlib.Core.List.{List}
-use mathlib.Core.Bool.{Bool, true, false, not}
+use mathlib.Core.Bool.{Bool, true, false, not, _||_}
 use mathlib.Core.Logic.{_⊎_, inl, inr, ⊎-elim}
 use native.Mathlib.Omega.{arith}
-use lib.ListN.{getD}
+use lib.ListN.{length, getD}
 use borrow.Author.Tests.{not-false}
-use Rattle.standard.proofs.Choice.{below?}
-use Rattle.checker.specs.Runs.{quiet, Quiet, alike, Alike, unitRow, UnitRows}
+use Rattle.standard.proofs.Choice.{no-way, below?}
+use Rattle.checker.specs.Runs.{quiet, Quiet, alike, Alike, AlikeIf, unitRow, UnitRows, PlainRows}
+
+-- Where neither of two tests holds, each fails.
+pub or-none : (t u : Bool) → t || u ≡ false → (t ≡ false) × (u ≡ false)
+or-none true u e = no-way e
+or-none false u e = (refl, e)
 
 -- Whether the i-th byte from at on is quiet, and whether the i-th bytes are alike.
 abbrev pub quietAt : (end : ℕ) (s : List ℕ) (at : ℕ) → ℕ → Bool
@@ -73,8 +78,24 @@ alike-join s at text t i n first later =
     each-join (alikeAt s at text t) i n first (λ j k. let there : at + i + j ≡ at + (i + j) = omega arith in
     let here : t + i + j ≡ t + (i + j) = omega arith in rw (there, here) at (later j k))
 
+-- None, whether the text was right or not.
+pub alike-if-none : (right : Bool) (s : List ℕ) (at : ℕ) (text : List ℕ) (t : ℕ) → AlikeIf right s at text t 0
+alike-if-none true s at text t = each-none (alikeAt s at text t)
+alike-if-none false s at text t = refl
+
 -- Rows of which i are of one byte, and n more.
 pub units-join : (rows : List ℕ) (next i n : ℕ) → UnitRows rows next i → UnitRows rows (next + 3 * i) n → UnitRows rows next (i + n)
 units-join rows next i n first later =
     each-join (unitAt rows next) i n first
     (λ j k. let there : next + 3 * i + 3 * j ≡ next + 3 * (i + j) = omega arith in rw there at (later j k))
+
+-- No rows are plain.
+pub plain-none : {rows : List ℕ} {next : ℕ} {s : List ℕ} {at : ℕ} {text : List ℕ} {t : ℕ} → next ≤ length rows → at ≤ length s → t ≤ length text
+    → PlainRows rows next s at text t 0
+plain-none {rows} {next} {s} {at} {text} {t} h k l = record {
+  rows-there = omega arith;
+  source-there = omega arith;
+  text-there = omega arith;
+  units = each-none (unitAt rows next);
+  same = each-none (alikeAt s at text t);
+}

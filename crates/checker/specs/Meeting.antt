@@ -1,21 +1,23 @@
 -- Meeting what a transcript should have next, and the numbers that are lent to the code.
-use Prim.Native.Nat.{ℕ, _+_, _≤_, _<_}
+use Prim.Native.Nat.{ℕ, _+_, _*_, _≤_, _<_}
 use mathlib.Core.Path.{_≡_}
 use mathlib.Core.List.{List}
 use mathlib.Core.Bool.{true, _&&_}
 use mathlib.Core.Logic.{_⊎_}
 use lib.Dec.{eqb}
-use lib.ListN.{length, drop}
+use lib.ListN.{length, getD, drop}
 use Rattle.standard.specs.declared.Context.{Context}
 use Rattle.standard.specs.Notation.{if_then_else_}
-use Rattle.standard.specs.Errors.{numbers}
+use Rattle.standard.specs.Classes.{characterCode}
+use Rattle.standard.specs.Errors.{listed, placed, numbers}
 use Rattle.standard.specs.Names.{Name, stands}
 use Rattle.standard.specs.Pieces.{Piece}
 use Rattle.standard.specs.Reading.{pieces, joined}
 use Rattle.checker.specs.declared.meeting.Met.{Met}
 use Rattle.checker.specs.declared.rows.Joint.{Joint}
 use Rattle.checker.specs.declared.rows.Judged.{Judged}
-use Rattle.checker.specs.declared.rows.Verdict as code
+use Rattle.checker.specs.declared.verdicts.Verdict as code
+use Rattle.checker.specs.Runs.{lone}
 use Rattle.checker.specs.Transcript.{Row, Left, left, total, reached, wrong, right, remains, after, Verdict, words}
 
 -- The numbers that are lent: words, or bytes where there are no words.
@@ -37,6 +39,15 @@ pub record Joins (ps : List Piece) (at n : ℕ) (text : List ℕ) (t : Met) (err
   pub at-is : r .at ≡ at + total (reached n ps)
   pub text-met : Meets t (joined at (reached n ps) .text) text (r .text)
   pub errors-met : Meets e (numbers (joined at (reached n ps) .errors)) errors (r .errors)
+
+-- A row of n source bytes, m text bytes and k errors is one byte that stands for itself, is next in text, and whose error, if any, is next in errors.
+pub record ByteRow (s : List ℕ) (at n : ℕ) (text : List ℕ) (t m : ℕ) (errors : List ℕ) (e k : ℕ) : Type 0 where
+  pub source-byte : n ≡ 1
+  pub text-byte : m ≡ 1
+  pub alone : lone (getD s at 0) ≡ true
+  pub there : t < length text
+  pub same : getD text t 0 ≡ getD s at 0
+  pub codes : Meets (so-far e) (numbers (placed at (listed (characterCode (getD s at 0))))) errors (so-far (e + 2 * k))
 
 -- What is left of a covered source from at on, of text from t on and of errors from e on.
 abbrev pub leftAt : List Name → Context → (source : List ℕ) (at : ℕ) (text : List ℕ) (t : ℕ) (errors : List ℕ) (e : ℕ) → Left

@@ -5,7 +5,7 @@ ghost use Rattle.checker.specs.Transcript.{verdict, checked, checkedOf, 
 ghost use Rattle.checker.specs.Meeting.{lent};
 use crate::faults::find_fault;
 use crate::meeting::count;
-use crate::rows::judge;
+use crate::verdicts::judge;
 use standard::Context;
 use standard::table::builtin_names;
 

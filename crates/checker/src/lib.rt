@@ -1,4 +1,5 @@
 // Checking: a transcript of a source, judged without the decoder.
+mod blocks;
 mod checking;
 mod classes;
 mod faults;
@@ -7,6 +8,7 @@ mod pieces;
 mod references;
 mod rows;
 mod runs;
+mod verdicts;
 
 pub use checking::Checked;
 pub use checking::check;

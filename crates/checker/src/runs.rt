@@ -72,10 +72,10 @@ pub(crate) fn quiet_run(context: Context, s: &[u8], from: usize) -> usize
 }
 
 // A byte that is a piece and its own text, without an error, and is the byte c too.
-fn alike(b: u8, c: u8) -> bool
+pub(crate) fn alike(b: u8, c: u8) -> bool
     ensures { λ r. ⌜ r ≡ spec.alike b c ⌝ }
 {
-    (((0x20 <= b) & (b <= 0x7E) & (b != b'&')) | (b == 0xA)) & (b == c)
+    (((0x20 <= b) & (b <= 0x7E) & (b != b'&')) | (b == 0xA) | (b == 0x9)) & (b == c)
 }
 
 // Whether the 32 bytes of s from at on and those of text from t on are alike.

@@ -7,7 +7,7 @@ use mathlib.Core.Bool.{true, false, not, _||_, _&&_}
 use mathlib.Core.Logic.{_⊎_, inl, inr, ⊎-elim}
 use lib.Dec.{eqb}
 use lib.ListN.{length}
-use borrow.Author.Tests.{le-ltb, eqb-true, eq-eqb}
+use borrow.Author.Tests.{le-ltb, eqb-true, eqb-false, eq-eqb}
 use Rattle.standard.specs.declared.Context.{Context}
 use Rattle.standard.specs.Notation.{if_then_else_}
 use Rattle.standard.specs.Answers.{done, ill-formed, nul, too-long, context-end, not-whole}
@@ -17,7 +17,7 @@ use Rattle.standard.proofs.Choice.{no-way, test?, below?, and-true}
 use Rattle.standard.proofs.Stops.{OneOf, stops-with}
 use Rattle.checker.specs.declared.checking.Checked.{Checked}
 use Rattle.checker.specs.Transcript.{right, Verdict, verdict, verdictOn, checked, checkedOf, words, checkedBytes}
-use Rattle.checker.proofs.CheckLaws.{check-long, bytes-long, bytes-checked}
+use Rattle.checker.proofs.CheckLaws.{check-long, bytes-long, bytes-rows, bytes-errors, bytes-checked}
 use Rattle.demands.proofs.Lines.{Line, line}
 
 -- The answers of the check.
@@ -177,16 +177,11 @@ module _ (context : Context) (source rows text errors : List ℕ) (c : Checked) 
   bytes-3 h = is ∙ sym (bytes-long context source rows text errors h)
 
   pub bytes-10 : length source ≤ 65536 → (Fours → ⊥) → c ≡ checked not-whole (verdict right 0) 0
-  unfolding checkedBytes
   bytes-10 short odd =
       is
-      ∙ rw (le-ltb 65536 (length source) short)
-      (⊎-elim (λ t. absurd (odd (fours t))) (λ f. rw f) (test? (eqb (length rows % 4) 0 && eqb (length errors % 4) 0)))
-    where
-      fours : eqb (length rows % 4) 0 && eqb (length errors % 4) 0 ≡ true → Fours
-      fours t =
-          let w = and-true (eqb (length rows % 4) 0) (eqb (length errors % 4) 0) t in
-          (eqb-true (length rows % 4) 0 (w .0), eqb-true (length errors % 4) 0 (w .1))
+      ∙ sym (⊎-elim
+      (λ t. let whole = eqb-true (length rows % 4) 0 t in bytes-errors context source rows text errors short whole (λ e. odd (whole, e)))
+      (λ f. bytes-rows context source rows text errors short (eqb-false (length rows % 4) 0 f)) (test? (eqb (length rows % 4) 0)))
 
   pub bytes-as-words : length source ≤ 65536 → Fours → c ≡ checkedOf builtin context source (words rows) text (words errors)
   bytes-as-words short whole = is ∙ sym (bytes-checked context source rows text errors short (whole .0) (whole .1))

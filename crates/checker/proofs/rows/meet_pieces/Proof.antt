@@ -6,7 +6,7 @@ use Rattle.standard.specs.Names.{records}
 use Rattle.standard.specs.Reading.{pieces}
 use Rattle.checker.specs.Pieces.{pieceOf}
 use Rattle.checker.specs.Meeting.{lent, so-far, Joins}
-use Rattle.checker.proofs.Walking.{Walking, piece-there, walk-on, walk-run-if, walked}
+use Rattle.checker.proofs.Walking.{Walking, run-over, next-there, next-on, walked}
 use Rattle.checker.proofs.rows.meet_pieces.Statement.{statement}
 use Rattle.checker.proofs.rows.meet_pieces.Tie as tie
 
@@ -26,7 +26,7 @@ sub-text-run : tie.Need-sub-text-run Inv-loop μ-loop
 sub-text-run c = omega arith
 
 text-run-requires : tie.Need-text-run-requires Inv-loop μ-loop
-text-run-requires c κs = (omega arith, c .before .loop .inv .text-there)
+text-run-requires c κs = (omega arith, omega arith, c .before .loop .inv .text-there)
 
 add-here : tie.Need-add-here Inv-loop μ-loop
 add-here c = omega (arith, c .text-run .ensures .0)
@@ -38,12 +38,7 @@ returns : tie.Need-returns Inv-loop μ-loop
 returns c =
     let c3 = c .before .before .before in
     let c9 = c3 .before .before .before .before .before .before in
-    let run = c .before .text-run .ensures in
-    let within = c9 .pre .1 in
-    let test = c .before .before .loop-test .taken in
-    let w = walk-run-if (c3 .loop .right) (c3 .loop .inv) (c .before .text-run .result) (omega (arith, run .0, test))
-    (omega (arith, run .0, test, within)) (run .1) (run .2) in
-    walked w (omega (arith, c .if1 .taken))
+    walked (run-over (c3 .loop .inv) (c .before .text-run .ensures) (c .before .before .loop-test .taken) (c9 .pre .1)) (omega (arith, c .if1 .taken))
 
 piece-at-requires : tie.Need-piece-at-requires Inv-loop μ-loop
 piece-at-requires c κs =
@@ -51,7 +46,9 @@ piece-at-requires c κs =
     omega (arith, c .before .text-run .ensures .0, c .before .before .loop-test .taken, c9 .pre .1, c .if1 .left)
 
 meet-text-requires : tie.Need-meet-text-requires Inv-loop μ-loop
-meet-text-requires c κs = c .before .before .before .text-run .ensures .1
+meet-text-requires c κs =
+    let c3 = c .before .before .before in
+    c3 .text-run .ensures .1
 
 cast-meet-codes : tie.Need-cast-meet-codes Inv-loop μ-loop
 cast-meet-codes c =
@@ -61,7 +58,9 @@ cast-meet-codes c =
     omega (arith, c4 .text-run .ensures .0, c5 .loop-test .taken, c12 .pre .1, c12 .pre .2)
 
 meet-codes-requires : tie.Need-meet-codes-requires Inv-loop μ-loop
-meet-codes-requires c κs = c .before .before .before .before .before .before .loop .inv .errors-there
+meet-codes-requires c κs =
+    let c6 = c .before .before .before .before .before .before in
+    c6 .loop .inv .errors-there
 
 add-at : tie.Need-add-at Inv-loop μ-loop
 add-at c =
@@ -71,16 +70,10 @@ add-at c =
     let c7 = c6 .before in
     let c8 = c7 .before in
     let c14 = c8 .before .before .before .before .before .before in
-    let run = c6 .text-run .ensures in
-    let within = c14 .pre .1 in
-    let test = c7 .loop-test .taken in
-    let w = walk-run-if (c8 .loop .right) (c8 .loop .inv) (c6 .text-run .result) (omega (arith, run .0, test))
-    (omega (arith, run .0, test, within)) (run .1) (run .2) in
-    let more = c5 .if1 .left in
     omega (
       arith,
       c14 .pre .2,
-      piece-there w (omega (arith, run .0, test, more)) (omega (arith, run .0, test, within, more))
+      next-there (c8 .loop .inv) (c6 .text-run .ensures) (c7 .loop-test .taken) (c14 .pre .1) (c5 .if1 .left)
           (pieceOf (c4 .piece-at .result)) (c4 .piece-at .ensures),
     )
 
@@ -92,16 +85,10 @@ loop-less c =
     let c7 = c6 .before in
     let c8 = c7 .before in
     let c14 = c8 .before .before .before .before .before .before in
-    let run = c6 .text-run .ensures in
-    let within = c14 .pre .1 in
-    let test = c7 .loop-test .taken in
-    let w = walk-run-if (c8 .loop .right) (c8 .loop .inv) (c6 .text-run .result) (omega (arith, run .0, test))
-    (omega (arith, run .0, test, within)) (run .1) (run .2) in
-    let more = c5 .if1 .left in
     omega (
       arith,
-      piece-there w (omega (arith, run .0, test, more)) (omega (arith, run .0, test, within, more)) (pieceOf (c4 .piece-at .result))
-          (c4 .piece-at .ensures),
+      next-there (c8 .loop .inv) (c6 .text-run .ensures) (c7 .loop-test .taken) (c14 .pre .1) (c5 .if1 .left)
+          (pieceOf (c4 .piece-at .result)) (c4 .piece-at .ensures),
     )
 
 loop-again : tie.Need-loop-again Inv-loop μ-loop
@@ -112,14 +99,9 @@ loop-again c =
     let c7 = c6 .before in
     let c8 = c7 .before in
     let c14 = c8 .before .before .before .before .before .before in
-    let run = c6 .text-run .ensures in
-    let within = c14 .pre .1 in
-    let test = c7 .loop-test .taken in
-    let w = walk-run-if (c8 .loop .right) (c8 .loop .inv) (c6 .text-run .result) (omega (arith, run .0, test))
-    (omega (arith, run .0, test, within)) (run .1) (run .2) in
-    let more = c5 .if1 .left in
-    walk-on w (omega (arith, run .0, test, more)) (omega (arith, run .0, test, within, more)) (pieceOf (c4 .piece-at .result))
-    (c4 .piece-at .ensures) (c .before .before .meet-text .ensures) (c .before .meet-codes .ensures)
+    next-on (c8 .loop .inv) (c6 .text-run .ensures) (c7 .loop-test .taken) (c14 .pre .1) (c5 .if1 .left)
+    (pieceOf (c4 .piece-at .result)) (c4 .piece-at .ensures)
+    (c .before .before .meet-text .ensures) (c .before .meet-codes .ensures)
 
 returns-2 : tie.Need-returns-2 Inv-loop μ-loop
 returns-2 c = walked (c .before .loop .inv) (omega arith)

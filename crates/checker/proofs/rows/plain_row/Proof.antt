@@ -1,9 +1,10 @@
-use mathlib.Core.Path.{_≡_, refl, sym}
-use mathlib.Core.Bool.{Bool, true, false, not, _||_}
+use mathlib.Core.Path.{_≡_, sym}
+use mathlib.Core.Bool.{not}
 use lib.Dec.{eqb}
 use borrow.Author.Needs.{needs}
 use borrow.Author.Tests.{eqb-true, not-false}
 use Rattle.standard.proofs.Choice.{no-way}
+use Rattle.checker.proofs.RunLaws.{or-none}
 use Rattle.checker.proofs.rows.plain_row.Statement.{statement}
 use Rattle.checker.proofs.rows.plain_row.Tie as tie
 
@@ -25,10 +26,6 @@ returns-2 c e =
       there = rw all at (run .1);
       same = rw all at (run .2);
     }
-  where
-    or-none : (t u : Bool) → t || u ≡ false → (t ≡ false) × (u ≡ false)
-    or-none true u e = no-way e
-    or-none false u e = (refl, e)
 
 pub plain-row-spec : {M : Type 1} → statement M
 plain-row-spec = tie.close (tie.spec returns alike-run-requires returns-2)

@@ -2,8 +2,8 @@ use mathlib.Core.Path.{refl}
 use mathlib.Core.Logic.{⊎-elim}
 use native.Mathlib.Omega.{arith}
 use borrow.Author.Needs.{needs}
-use Rattle.checker.proofs.rows.last_verdict.Statement.{statement}
-use Rattle.checker.proofs.rows.last_verdict.Tie as tie
+use Rattle.checker.proofs.verdicts.last_verdict.Statement.{statement}
+use Rattle.checker.proofs.verdicts.last_verdict.Tie as tie
 
 returns : tie.Need-returns
 returns c = record { all = λ x y z. absurd (omega (arith, c .if1 .taken)); some = λ w. (refl, refl) }
