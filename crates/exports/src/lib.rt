@@ -1,0 +1,114 @@
+// The functions for C: each refuses by 5 what its caller must not ask, or calls one function and reports what that answers.
+ghost use mathlib.Core.Path.{_≡_};
+ghost use mathlib.Core.List.{_∷_, []};
+ghost use Prim.Native.Nat.{_+_, _≤_};
+ghost use lib.ListN.{length};
+ghost use lib.Seq.{sets};
+ghost use Rattle.standard.specs.Rooms.{Put};
+ghost use Rattle.exports.specs.Exports.{fours, contextOf, modeOf, asked, escapes, checks, Gives};
+use escaper::Mode;
+use standard::Context;
+
+// A number as four bytes, the lowest first.
+fn put_number(out: &mut [u8], at: usize, n: u32) -> usize
+    requires { ⌜ at + 4 ≤ length (now out) ⌝ }
+    ensures { λ r. ⌜ Put (now (out .entry)) at (fours (n ∷ [])) (now (out .exit)) r ⌝ }
+{
+    out[at] = (n % 256) as u8;
+    out[at + 1] = (n / 256 % 256) as u8;
+    out[at + 2] = (n / 65536 % 256) as u8;
+    out[at + 3] = (n / 16777216 % 256) as u8;
+    at + 4
+}
+
+// The four numbers of a report, the first of which is the answer.
+fn put_report(report: &mut [u8], answer: u32, text: u32, errors: u32, place: u32) -> u32
+    requires { ⌜ length (now report) ≡ 16 ⌝ }
+    ensures { λ r. ⌜ (r ≡ answer) × (now (report .exit) ≡ sets (now (report .entry)) 0 (fours (answer ∷ text ∷ errors ∷ place ∷ []))) ⌝ }
+{
+    let second = put_number(report, 0, answer);
+    let third = put_number(report, second, text);
+    let fourth = put_number(report, third, errors);
+    put_number(report, fourth, place);
+    answer
+}
+
+fn escape_in(mode: Mode, input: &[u8], out: &mut [u8], report: &mut [u8]) -> u32
+    requires { ⌜ length (now report) ≡ 16 ⌝ }
+    ensures { λ r. ⌜ Gives (escapes (now (input .entry)) (now (out .entry)) mode)
+        (now (out .entry)) [] (now (report .entry)) r (now (out .exit)) [] (now (report .exit)) ⌝ }
+{
+    let escaped = escaper::escape(mode, input, out);
+    put_report(report, escaped.answer, escaped.text, 0, escaped.place)
+}
+
+// Escapes all of `input` into `out`. The report: answer, length of the result, 0, place.
+#[no_mangle]
+pub extern "C" fn plankskein_escape(
+    mode: u32,
+    input: &[u8],
+    out: &mut [u8],
+    report: &mut [u8],
+) -> u32
+    ensures { λ r. ⌜ Gives (asked (now (report .entry)) (modeOf mode) (escapes (now (input .entry)) (now (out .entry))))
+        (now (out .entry)) [] (now (report .entry)) r (now (out .exit)) [] (now (report .exit)) ⌝ }
+{
+    if report.len() != 16 {
+        return 5;
+    }
+    if mode == 0 {
+        return escape_in(Mode::Text, input, out, report);
+    }
+    if mode == 1 {
+        return escape_in(Mode::Attribute, input, out, report);
+    }
+    5
+}
+
+fn check_in(
+    context: Context,
+    source: &[u8],
+    rows: &[u8],
+    text: &[u8],
+    errors: &[u8],
+    report: &mut [u8],
+) -> u32
+    requires { ⌜ length (now report) ≡ 16 ⌝ }
+    ensures { λ r. ⌜ Gives (checks (now (source .entry)) (now (rows .entry)) (now (text .entry)) (now (errors .entry)) context)
+        [] [] (now (report .entry)) r [] [] (now (report .exit)) ⌝ }
+{
+    let checked = checker::check_bytes(context, source, rows, text, errors);
+    put_report(
+        report,
+        checked.answer,
+        checked.verdict,
+        checked.row,
+        checked.place,
+    )
+}
+
+// Judges a transcript. The report: answer, verdict, row, place.
+#[no_mangle]
+pub extern "C" fn plankskein_check(
+    context: u32,
+    source: &[u8],
+    rows: &[u8],
+    text: &[u8],
+    errors: &[u8],
+    report: &mut [u8],
+) -> u32
+    ensures { λ r. ⌜ Gives (asked (now (report .entry)) (contextOf context)
+        (checks (now (source .entry)) (now (rows .entry)) (now (text .entry)) (now (errors .entry))))
+        [] [] (now (report .entry)) r [] [] (now (report .exit)) ⌝ }
+{
+    if report.len() != 16 {
+        return 5;
+    }
+    if context == 0 {
+        return check_in(Context::Text, source, rows, text, errors, report);
+    }
+    if context == 1 {
+        return check_in(Context::Attribute, source, rows, text, errors, report);
+    }
+    5
+}
