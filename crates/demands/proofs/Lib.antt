@@ -19,3 +19,4 @@ pub mod CheckAnswers
 pub mod Transcript
 pub mod CheckEdges
 pub mod Program
+pub mod Exports

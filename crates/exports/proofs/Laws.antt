@@ -1,9 +1,10 @@
 -- Laws of reports, and of what is given.
 use Prim.Native.Nat.{ℕ, _+_}
-use mathlib.Core.Path.{_≡_, refl}
-use mathlib.Core.List.{List, [], _∷_}
-use lib.ListN.{length}
-use lib.Seq.{sets}
+use mathlib.Core.Path.{_≡_, refl, _∙_, ap}
+use mathlib.Core.List.{List, [], _∷_, _++_, append-nil}
+use native.Mathlib.Omega.{arith}
+use lib.ListN.{length, drop-of-length-le}
+use lib.Seq.{sets, sets-eq}
 use borrow.Author.Tests.{eq-eqb, ne-eqb}
 use Rattle.standard.specs.Rooms.{Put}
 use Rattle.standard.proofs.Puts.{put-length, put-join}
@@ -20,6 +21,13 @@ pub put-four : {old second third fourth new : List ℕ} {at p q r next : ℕ} (a
     → Put old at (fours (a ∷ b ∷ c ∷ d ∷ [])) new next
 unfolding fours
 put-four a b c d x y z w = put-join x (put-join y (put-join z w))
+
+-- A report of the right length is its four numbers and nothing else.
+pub report-whole : (report : List ℕ) (a b c d : ℕ) → length report ≡ 16 → sets report 0 (fours (a ∷ b ∷ c ∷ d ∷ [])) ≡ fours (a ∷ b ∷ c ∷ d ∷ [])
+unfolding fours
+report-whole report a b c d h =
+    let numbers = fours (a ∷ b ∷ c ∷ d ∷ []) in
+    sets-eq numbers report 0 (omega arith) ∙ ap (λ (l : List ℕ). numbers ++ l) (drop-of-length-le report {i = 16} (omega arith)) ∙ append-nil numbers
 
 -- 5 for another report length.
 pub asked-length : {A : Type 0} (report : List ℕ) (text attribute : A) (number : ℕ) (gives : A → Given) → (length report ≡ 16 → ⊥)

@@ -48,7 +48,9 @@ returns c =
     let c10 = c6 .before .before .before .before in
     let c14 = c10 .before .before .before .before in
     let a = c14 .before .before .before .args in
-    (refl, put-four (a .answer) (a .text) (a .errors) (a .place) (c14 .put-number .ensures) (c10 .put-number2 .ensures) (c6 .put-number3 .ensures) (c2 .put-number4 .ensures) .new-is)
+    let p = put-four (a .answer) (a .text) (a .errors) (a .place) (c14 .put-number .ensures) (c10 .put-number2 .ensures) (c6 .put-number3 .ensures)
+    (c2 .put-number4 .ensures) in
+    (refl, p .new-is)
 
 pub put-report-spec : {M : Type 1} → statement M
 put-report-spec =
