@@ -6,9 +6,16 @@ use native.Mathlib.Omega.{arith}
 use lib.ListN.{length, drop-of-length-le}
 use lib.Seq.{sets, sets-eq}
 use borrow.Author.Tests.{eq-eqb, ne-eqb}
+use Rattle.standard.specs.declared.Context.{Context}
+use Rattle.standard.specs.NameList.{builtin}
 use Rattle.standard.specs.Rooms.{Put}
 use Rattle.standard.proofs.Puts.{put-length, put-join}
-use Rattle.exports.specs.Exports.{fours, Given, untouched, meant, asked, Gives}
+use Rattle.escaper.specs.declared.Mode.{Mode}
+use Rattle.escaper.specs.declared.Escaped.{Escaped}
+use Rattle.escaper.specs.Escape.{Escapes}
+use Rattle.checker.specs.declared.checking.Checked.{Checked}
+use Rattle.checker.specs.Transcript.{checkedBytes}
+use Rattle.exports.specs.Exports.{fours, Given, untouched, meant, asked, escapes, checks, Gives}
 
 -- After a number the next has its place four bytes on, in a room of the same length.
 pub after-number : {old new : List ℕ} {at next : ℕ} (n : ℕ) → Put old at (fours (n ∷ [])) new next → (next ≡ at + 4) × (length new ≡ length old)
@@ -61,3 +68,28 @@ gives-as e g = rw e g
 -- 5 leaves all as it was.
 pub gives-untouched : {given : Given} (text errors report : List ℕ) → given ≡ untouched → Gives given text errors report 5 text errors report
 gives-untouched text errors report e = rw e (record { answered = refl; texts = refl; numbers-of = refl; reports = refl })
+
+-- What `escape` gives, reported.
+pub escape-reported : {mode : Mode} {input out out′ report report′ : List ℕ} {e : Escaped} {r : ℕ} → Escapes mode input out e out′
+    → (r ≡ e .answer) × (report′ ≡ sets report 0 (fours (e .answer ∷ e .text ∷ 0 ∷ e .place ∷ [])))
+    → Gives (escapes input out mode) out [] report r out′ [] report′
+unfolding escapes
+escape-reported {report = report} d p = record {
+  answered = p .0 ∙ ap (λ (x : Escaped). x .answer) (d .answered);
+  texts = d .texts;
+  numbers-of = refl;
+  reports = p .1 ∙ ap (λ (x : Escaped). sets report 0 (fours (x .answer ∷ x .text ∷ 0 ∷ x .place ∷ []))) (d .answered);
+}
+
+-- What `check_bytes` gives, reported.
+pub check-reported : {report report′ : List ℕ} {c : Checked} {r : ℕ} (context : Context) (source rows text errors : List ℕ)
+    → c ≡ checkedBytes builtin context source rows text errors
+    → (r ≡ c .answer) × (report′ ≡ sets report 0 (fours (c .answer ∷ c .verdict ∷ c .row ∷ c .place ∷ [])))
+    → Gives (checks source rows text errors context) [] [] report r [] [] report′
+unfolding checks
+check-reported {report = report} context source rows text errors is p = record {
+  answered = p .0 ∙ ap (λ (x : Checked). x .answer) is;
+  texts = refl;
+  numbers-of = refl;
+  reports = p .1 ∙ ap (λ (x : Checked). sets report 0 (fours (x .answer ∷ x .verdict ∷ x .row ∷ x .place ∷ []))) is;
+}

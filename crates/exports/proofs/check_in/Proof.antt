@@ -1,7 +1,6 @@
 -- The verdict, reported.
-use mathlib.Core.Path.{refl, _∙_}
-use Rattle.exports.specs.Exports.{checks}
 use borrow.Author.Needs.{needs}
+use Rattle.exports.proofs.Laws.{check-reported}
 use Rattle.exports.proofs.check_in.Statement.{statement}
 use Rattle.exports.proofs.check_in.Tie as tie
 
@@ -15,16 +14,11 @@ same-length : tie.Need-same-length
 same-length c = search needs
 
 returns : tie.Need-returns
-unfolding checks
 returns c =
-    let p = c .before .before .put-report .ensures in
-    let e = c .before .before .before .before .check-bytes .ensures in
-    record {
-      answered = p .0 ∙ rw e;
-      texts = refl;
-      numbers-of = refl;
-      reports = p .1 ∙ rw e;
-    }
+    let c2 = c .before .before in
+    let c4 = c2 .before .before in
+    let a = c4 .before .before .before .before .before .before .args in
+    check-reported (a .context) (a .source .now) (a .rows .now) (a .text .now) (a .errors .now) (c4 .check-bytes .ensures) (c2 .put-report .ensures)
 
 pub check-in-spec : {M : Type 1} → statement M
 check-in-spec = tie.close (tie.spec check-bytes-requires put-report-requires same-length returns)

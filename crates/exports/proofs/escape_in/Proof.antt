@@ -1,7 +1,6 @@
 -- The result, reported.
-use mathlib.Core.Path.{refl, _∙_}
-use Rattle.exports.specs.Exports.{escapes}
 use borrow.Author.Needs.{needs}
+use Rattle.exports.proofs.Laws.{escape-reported}
 use Rattle.exports.proofs.escape_in.Statement.{statement}
 use Rattle.exports.proofs.escape_in.Tie as tie
 
@@ -18,16 +17,10 @@ same-length-2 : tie.Need-same-length-2
 same-length-2 c = search needs
 
 returns : tie.Need-returns
-unfolding escapes
 returns c =
-    let p = c .before .before .put-report .ensures in
-    let e = c .before .before .before .before .before .before .escape .ensures in
-    record {
-      answered = p .0 ∙ rw (e .answered);
-      texts = e .texts;
-      numbers-of = refl;
-      reports = p .1 ∙ rw (e .answered);
-    }
+    let c2 = c .before .before in
+    let c6 = c2 .before .before .before .before in
+    escape-reported (c6 .escape .ensures) (c2 .put-report .ensures)
 
 pub escape-in-spec : {M : Type 1} → statement M
 escape-in-spec =
