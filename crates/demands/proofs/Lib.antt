@@ -20,3 +20,4 @@ pub mod Transcript
 pub mod CheckEdges
 pub mod Program
 pub mod Exports
+pub mod ReportNumbers

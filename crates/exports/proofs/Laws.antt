@@ -1,5 +1,5 @@
 -- Laws of reports, and of what is given.
-use Prim.Native.Nat.{ℕ, _+_}
+use Prim.Native.Nat.{ℕ}
 use mathlib.Core.Path.{_≡_, refl, _∙_, ap}
 use mathlib.Core.List.{List, [], _∷_, _++_, append-nil}
 use native.Mathlib.Omega.{arith}
@@ -8,26 +8,15 @@ use lib.Seq.{sets, sets-eq}
 use borrow.Author.Tests.{eq-eqb, ne-eqb}
 use Rattle.standard.specs.declared.Context.{Context}
 use Rattle.standard.specs.NameList.{builtin}
-use Rattle.standard.specs.Rooms.{Put}
-use Rattle.standard.proofs.Puts.{put-length, put-join}
+use Rattle.standard.specs.Rooms.{fours}
+use Rattle.decoder.specs.declared.whole.Decoded.{Decoded}
+use Rattle.decoder.specs.Whole.{DecodesBytes}
 use Rattle.escaper.specs.declared.Mode.{Mode}
 use Rattle.escaper.specs.declared.Escaped.{Escaped}
 use Rattle.escaper.specs.Escape.{Escapes}
 use Rattle.checker.specs.declared.checking.Checked.{Checked}
 use Rattle.checker.specs.Transcript.{checkedBytes}
-use Rattle.exports.specs.Exports.{fours, Given, untouched, meant, asked, escapes, checks, Gives}
-
--- After a number the next has its place four bytes on, in a room of the same length.
-pub after-number : {old new : List ℕ} {at next : ℕ} (n : ℕ) → Put old at (fours (n ∷ [])) new next → (next ≡ at + 4) × (length new ≡ length old)
-unfolding fours
-after-number n p = (p .next-is, put-length p)
-
--- Four numbers one after the other are a report.
-pub put-four : {old second third fourth new : List ℕ} {at p q r next : ℕ} (a b c d : ℕ) → Put old at (fours (a ∷ [])) second p
-    → Put second p (fours (b ∷ [])) third q → Put third q (fours (c ∷ [])) fourth r → Put fourth r (fours (d ∷ [])) new next
-    → Put old at (fours (a ∷ b ∷ c ∷ d ∷ [])) new next
-unfolding fours
-put-four a b c d x y z w = put-join x (put-join y (put-join z w))
+use Rattle.exports.specs.Exports.{Given, untouched, meant, asked, decodes, escapes, checks, Gives}
 
 -- A report of the right length is its four numbers and nothing else.
 pub report-whole : (report : List ℕ) (a b c d : ℕ) → length report ≡ 16 → sets report 0 (fours (a ∷ b ∷ c ∷ d ∷ [])) ≡ fours (a ∷ b ∷ c ∷ d ∷ [])
@@ -68,6 +57,19 @@ gives-as e g = rw e g
 -- 5 leaves all as it was.
 pub gives-untouched : {given : Given} (text errors report : List ℕ) → given ≡ untouched → Gives given text errors report 5 text errors report
 gives-untouched text errors report e = rw e (record { answered = refl; texts = refl; numbers-of = refl; reports = refl })
+
+-- What `decode_bytes` gives, reported.
+pub decode-reported : {report report′ text′ errors′ : List ℕ} {d : Decoded} {r : ℕ} (context : Context) (source text errors : List ℕ)
+    → DecodesBytes context source text errors d text′ errors′
+    → (r ≡ d .answer) × (report′ ≡ sets report 0 (fours (d .answer ∷ d .text ∷ d .errors ∷ d .place ∷ [])))
+    → Gives (decodes source text errors context) text errors report r text′ errors′ report′
+unfolding decodes
+decode-reported {report = report} context source text errors g p = record {
+  answered = p .0 ∙ ap (λ (x : Decoded). x .answer) (g .answered);
+  texts = g .texts;
+  numbers-of = g .numbers-of;
+  reports = p .1 ∙ ap (λ (x : Decoded). sets report 0 (fours (x .answer ∷ x .text ∷ x .errors ∷ x .place ∷ []))) (g .answered);
+}
 
 -- What `escape` gives, reported.
 pub escape-reported : {mode : Mode} {input out out′ report report′ : List ℕ} {e : Escaped} {r : ℕ} → Escapes mode input out e out′

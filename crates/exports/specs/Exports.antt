@@ -1,5 +1,5 @@
 -- Document 01, 'Whole-slice calls', on 'decode whole, escape and check are also exported': what the exports return and write.
-use Prim.Native.Nat.{ℕ, _/_, _%_}
+use Prim.Native.Nat.{ℕ, _/_}
 use mathlib.Core.Path.{_≡_}
 use mathlib.Core.List.{List, [], _∷_}
 use mathlib.Core.Option.{Option, some, none}
@@ -10,18 +10,19 @@ use Rattle.standard.specs.declared.Context.{Context}
 use Rattle.standard.specs.declared.Context.the-variants.{Text, Attribute}
 use Rattle.standard.specs.Notation.{if_then_else_}
 use Rattle.standard.specs.Answers.{no-room}
+use Rattle.standard.specs.Errors.{numbers}
 use Rattle.standard.specs.NameList.{builtin}
+use Rattle.standard.specs.Reading.{Reading}
+use Rattle.standard.specs.Rooms.{fours}
+use Rattle.decoder.specs.declared.whole.Decoded.{Decoded}
+use Rattle.decoder.specs.Whole.{decodedOf}
+use Rattle.decoder.specs.Whole.{writtenOf as readOf}
 use Rattle.escaper.specs.declared.Mode.{Mode}
 use Rattle.escaper.specs.declared.Mode.the-variants as mode
 use Rattle.escaper.specs.declared.Escaped.{Escaped}
 use Rattle.escaper.specs.Escape.{escapedOf, writtenOf}
 use Rattle.checker.specs.declared.checking.Checked.{Checked}
 use Rattle.checker.specs.Transcript.{checkedBytes}
-
--- 'Numbers in slices are four bytes, little-endian.'
-unfoldable pub fours : List ℕ → List ℕ
-fours [] = []
-fours (n ∷ numbers) = n % 256 ∷ n / 256 % 256 ∷ n / 65536 % 256 ∷ n / 16777216 % 256 ∷ fours numbers
 
 -- What an export returns, and what it writes into its report, its text room and its error room.
 pub record Given : Type 0 where
@@ -58,9 +59,20 @@ abbrev pub givenFor : {A : Type 0} → (A → Given) → Option A → Given
 givenFor gives none = untouched
 givenFor gives (some a) = gives a
 
+-- The length of a report.
+abbrev pub report-length : ℕ
+report-length = 16
+
 -- 'Another report length, or a context or escape mode other than 0 (text) and 1 (attribute), returns 5 first and touches nothing.'
 unfoldable pub asked : {A : Type 0} (report : List ℕ) → Option A → (A → Given) → Given
-asked report meaning gives = if eqb (length report) 16 then givenFor gives meaning else untouched
+asked report meaning gives = if eqb (length report) report-length then givenFor gives meaning else untouched
+
+-- Decode whole, in a context: 'odd last bytes of an error room don't count as room'.
+unfoldable pub decodes : (source text errors : List ℕ) → Context → Given
+decodes source text errors context =
+    let d : Decoded = decodedOf context source (length text) (length errors / 4) in
+    let read : Reading = readOf context source (length text) (length errors / 4) in
+    reported (d .answer) (d .text) (d .errors) (d .place) (read .text) (fours (numbers (read .errors)))
 
 -- Escape, in a mode.
 unfoldable pub escapes : (input out : List ℕ) → Mode → Given

@@ -1,36 +1,70 @@
 // The functions for C: each refuses by 5 what its caller must not ask, or calls one function and reports what that answers.
 ghost use mathlib.Core.Path.{_≡_};
 ghost use mathlib.Core.List.{_∷_, []};
-ghost use Prim.Native.Nat.{_+_, _≤_};
 ghost use lib.ListN.{length};
 ghost use lib.Seq.{sets};
-ghost use Rattle.standard.specs.Rooms.{Put};
-ghost use Rattle.exports.specs.Exports.{fours, contextOf, modeOf, asked, escapes, checks, Gives};
+ghost use Rattle.standard.specs.Rooms.{fours};
+ghost use Rattle.exports.specs.Exports.{contextOf, modeOf, asked, decodes, escapes, checks, Gives};
 use escaper::Mode;
 use standard::Context;
 
-// A number as four bytes, the lowest first.
-fn put_number(out: &mut [u8], at: usize, n: u32) -> usize
-    requires { ⌜ at + 4 ≤ length (now out) ⌝ }
-    ensures { λ r. ⌜ Put (now (out .entry)) at (fours (n ∷ [])) (now (out .exit)) r ⌝ }
-{
-    out[at] = (n % 256) as u8;
-    out[at + 1] = (n / 256 % 256) as u8;
-    out[at + 2] = (n / 65536 % 256) as u8;
-    out[at + 3] = (n / 16777216 % 256) as u8;
-    at + 4
-}
+// The length of a report.
+const REPORT_LENGTH: usize = 16;
 
 // The four numbers of a report, the first of which is the answer.
 fn put_report(report: &mut [u8], answer: u32, text: u32, errors: u32, place: u32) -> u32
     requires { ⌜ length (now report) ≡ 16 ⌝ }
     ensures { λ r. ⌜ (r ≡ answer) × (now (report .exit) ≡ sets (now (report .entry)) 0 (fours (answer ∷ text ∷ errors ∷ place ∷ []))) ⌝ }
 {
-    let second = put_number(report, 0, answer);
-    let third = put_number(report, second, text);
-    let fourth = put_number(report, third, errors);
-    put_number(report, fourth, place);
+    let numbers = [answer, text, errors, place];
+    rooms::put_numbers(&numbers, report, 0);
     answer
+}
+
+fn decode_in(
+    context: Context,
+    source: &[u8],
+    text: &mut [u8],
+    errors: &mut [u8],
+    report: &mut [u8],
+) -> u32
+    requires { ⌜ length (now report) ≡ 16 ⌝ }
+    ensures { λ r. ⌜ Gives (decodes (now (source .entry)) (now (text .entry)) (now (errors .entry)) context)
+        (now (text .entry)) (now (errors .entry)) (now (report .entry)) r (now (text .exit)) (now (errors .exit)) (now (report .exit)) ⌝ }
+{
+    let decoded = decoder::decode_bytes(context, source, text, errors);
+    put_report(
+        report,
+        decoded.answer,
+        decoded.text,
+        decoded.errors,
+        decoded.place,
+    )
+}
+
+// Decodes a whole source into `text` and, as bytes, `errors`. The report: answer, text bytes, errors, place.
+#[no_mangle]
+pub extern "C" fn plankskein_decode(
+    context: u32,
+    source: &[u8],
+    text: &mut [u8],
+    errors: &mut [u8],
+    report: &mut [u8],
+) -> u32
+    ensures { λ r. ⌜ Gives (asked (now (report .entry)) (contextOf context)
+        (decodes (now (source .entry)) (now (text .entry)) (now (errors .entry))))
+        (now (text .entry)) (now (errors .entry)) (now (report .entry)) r (now (text .exit)) (now (errors .exit)) (now (report .exit)) ⌝ }
+{
+    if report.len() != REPORT_LENGTH {
+        return 5;
+    }
+    if context == 0 {
+        return decode_in(Context::Text, source, text, errors, report);
+    }
+    if context == 1 {
+        return decode_in(Context::Attribute, source, text, errors, report);
+    }
+    5
 }
 
 fn escape_in(mode: Mode, input: &[u8], out: &mut [u8], report: &mut [u8]) -> u32
@@ -53,7 +87,7 @@ pub extern "C" fn plankskein_escape(
     ensures { λ r. ⌜ Gives (asked (now (report .entry)) (modeOf mode) (escapes (now (input .entry)) (now (out .entry))))
         (now (out .entry)) [] (now (report .entry)) r (now (out .exit)) [] (now (report .exit)) ⌝ }
 {
-    if report.len() != 16 {
+    if report.len() != REPORT_LENGTH {
         return 5;
     }
     if mode == 0 {
@@ -101,7 +135,7 @@ pub extern "C" fn plankskein_check(
         (checks (now (source .entry)) (now (rows .entry)) (now (text .entry)) (now (errors .entry))))
         [] [] (now (report .entry)) r [] [] (now (report .exit)) ⌝ }
 {
-    if report.len() != 16 {
+    if report.len() != REPORT_LENGTH {
         return 5;
     }
     if context == 0 {
