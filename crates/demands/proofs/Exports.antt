@@ -1,20 +1,18 @@
 -- Document 01, 'decode whole, escape and check are also exported': what a C user relies on.
 -- r and what stands with ′ are whatever meets the contract of an export: the number returned, and the later contents of what was lent.
-use Prim.Native.Nat.{ℕ, suc, _+_, _*_, _/_, _%_, _≤_, _<_}
+use Prim.Native.Nat.{ℕ, _*_, _/_, _%_, _≤_}
 use mathlib.Core.Path.{_≡_, refl, sym, _∙_, ap}
 use mathlib.Core.List.{List, [], _∷_}
 use mathlib.Core.Logic.{_⊎_, inl, inr, ⊎-elim, ⊎-map}
 use native.Mathlib.Omega.{arith}
 use lib.Dec.{eqb}
-use lib.ListN.{length, drop, set}
-use lib.Seq.{drop-set-lt, sets}
+use lib.ListN.{length, drop}
+use lib.Seq.{sets}
 use borrow.Author.Tests.{eqb-true, eqb-false}
 use Rattle.standard.specs.declared.Context.{Context}
 use Rattle.standard.specs.declared.Context.the-variants.{Text, Attribute}
 use Rattle.standard.specs.Answers.{too-long, no-room, room-asked, not-whole}
-use Rattle.standard.specs.Errors.{numbers}
 use Rattle.standard.specs.NameList.{builtin}
-use Rattle.standard.specs.Reading.{covered, decode}
 use Rattle.standard.specs.Rooms.{fours}
 use Rattle.standard.proofs.Choice.{test?, below?}
 use Rattle.standard.proofs.Puts.{laid-fours}
@@ -30,7 +28,7 @@ use Rattle.checker.specs.Transcript.{right, verdict, checked, checkedOf, words,
 use Rattle.exports.specs.Exports.{Given, untouched, meant, contextOf, modeOf, asked, decodes, escapes, checks, Gives}
 use Rattle.exports.proofs.Laws.{report-whole, asked-length, asked-text, asked-attribute, asked-other}
 use Rattle.demands.proofs.Lines.{Line}
-use Rattle.demands.proofs.Laws.{rooms-suffice}
+use Rattle.demands.proofs.DecodedBytes.{odd-kept}
 use Rattle.demands.proofs.WholeAnswers as whole-answers
 use Rattle.demands.proofs.EscapeAnswers as escape-answers
 use Rattle.demands.proofs.CheckAnswers as check-answers
@@ -48,41 +46,6 @@ Reports r report′ answer second third place = (r ≡ answer) × (report′ ≡
 
 same? : (a b : ℕ) → (a ≡ b) ⊎ (a ≡ b → ⊥)
 same? a b = ⊎-map (eqb-true a b) (eqb-false a b) (test? (eqb a b))
-
--- What is written leaves what stands after it.
-keeps-rest : (values room : List ℕ) (at k : ℕ) → at + length values ≤ k → drop k (sets room at values) ≡ drop k room
-keeps-rest [] room at k h = refl
-keeps-rest (a ∷ values) room at k h =
-    keeps-rest values (set room at a) (suc at) k (omega (arith, h)) ∙ drop-set-lt k room at a (omega (arith, h))
-
--- `decode_bytes` leaves odd last bytes of its error room.
-odd-kept : {d : Decoded} {text′ errors′ : List ℕ} (context : Context) (source text errors : List ℕ)
-    → DecodesBytes context source text errors d text′ errors′ → drop (4 * (length errors / 4)) errors′ ≡ drop (4 * (length errors / 4)) errors
-odd-kept {d} {text′} {errors′} context source text errors w =
-    go (whole-answers.no-other laid-fours (length errors / 4) context source text errors d text′ errors′ w)
-  where
-    none : errors′ ≡ errors → drop (4 * (length errors / 4)) errors′ ≡ drop (4 * (length errors / 4)) errors
-    none e = ap (drop (4 * (length errors / 4))) e
-
-    some : 2 * length source + 8 ≤ length errors / 4 → errors′ ≡ sets errors 0 (fours (numbers (decode builtin context (covered context source) .errors)))
-        → drop (4 * (length errors / 4)) errors′ ≡ drop (4 * (length errors / 4)) errors
-    some h e =
-        let few = rooms-suffice context source .1 in
-        let all = numbers (decode builtin context (covered context source) .errors) in
-        ap (drop (4 * (length errors / 4))) e
-        ∙ keeps-rest (fours all) errors 0 (4 * (length errors / 4)) (omega (arith, h, few, laid-fours .long all))
-
-    go : (d .answer ≡ too-long) ⊎ ((d .answer ≡ room-asked) ⊎ OneOf (d .answer)) → drop (4 * (length errors / 4)) errors′ ≡ drop (4 * (length errors / 4)) errors
-    go (inl e) = let l = whole-answers.line-3 laid-fours (length errors / 4) context source text errors d text′ errors′ w in none (l .so (l .only e) .2)
-    go (inr (inl e)) = let l = whole-answers.line-9 laid-fours (length errors / 4) context source text errors d text′ errors′ w in none (l .so (l .only e) .2)
-    go (inr (inr (inl e))) =
-        let l = whole-answers.line-0 laid-fours (length errors / 4) context source text errors d text′ errors′ w in
-        some (l .only e .1 .1) (l .so (l .only e) .2)
-    go (inr (inr (inr (inl e)))) = let l = whole-answers.line-1 laid-fours (length errors / 4) context source text errors d text′ errors′ w in none (l .so (l .only e) .2)
-    go (inr (inr (inr (inr (inl e))))) = let l = whole-answers.line-2 laid-fours (length errors / 4) context source text errors d text′ errors′ w in none (l .so (l .only e) .2)
-    go (inr (inr (inr (inr (inr e))))) =
-        let l = whole-answers.line-7 laid-fours (length errors / 4) context source text errors d text′ errors′ w in
-        some (l .only e .1 .1) (l .so (l .only e) .2)
 
 -- `decode_bytes` answers as `decode_whole` does where the error room has as many numbers, writes the same text, and the same numbers as bytes.
 pub decode-as-whole : {d w : Decoded} {text′ errors′ text″ room′ : List ℕ} (context : Context) (source text errors room : List ℕ)
@@ -170,8 +133,8 @@ module _ (number : ℕ) (source text errors report : List ℕ) (r : ℕ) (text�
           (same? number 0)) (λ h. inr (λ u. h (u .0))) (same? (length report) 16)
 
       right-use : RightUse report number → drop (4 * (length errors / 4)) errors′ ≡ drop (4 * (length errors / 4)) errors
-      right-use (h, inl e) = let w = decode-text h e in odd-kept Text source text errors (w .1)
-      right-use (h, inr e) = let w = decode-attribute h e in odd-kept Attribute source text errors (w .1)
+      right-use (h, inl e) = let w = decode-text h e in odd-kept Text source text errors (w .0) text′ errors′ (w .1)
+      right-use (h, inr e) = let w = decode-attribute h e in odd-kept Attribute source text errors (w .0) text′ errors′ (w .1)
 
 -- `plankskein_escape`.
 module _ (number : ℕ) (input out report : List ℕ) (r : ℕ) (out′ report′ : List ℕ)

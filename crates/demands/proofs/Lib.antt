@@ -19,5 +19,6 @@ pub mod CheckAnswers
 pub mod Transcript
 pub mod CheckEdges
 pub mod Program
+pub mod DecodedBytes
 pub mod Exports
 pub mod ReportNumbers

@@ -1,4 +1,4 @@
--- Document 01, 'numbers in slices are four bytes, little-endian': four bytes say each number that the exports report or write, since it is below 2^32.
+-- Document 01, 'numbers in slices are four bytes, little-endian': four bytes say each number that the exports report, since it is below 2^32.
 use Prim.Native.Nat.{ℕ, zero, suc, _+_, _-_, _*_, _/_, _%_, _≤_, _<_}
 use mathlib.Core.Path.{_≡_, refl, _∙_, ap}
 use mathlib.Core.List.{List, [], _∷_}
@@ -7,30 +7,30 @@ use native.Mathlib.Omega.{arith}
 use lib.Dec.{eqb}
 use lib.ListN.{length, length-append, length-take}
 use Rattle.standard.specs.declared.Context.{Context}
-use Rattle.standard.specs.Answers.{done, ill-formed, nul, too-long, context-end, room-asked, not-whole}
+use Rattle.standard.specs.Answers.{done, ill-formed, nul, too-long, room-asked, not-whole}
 use Rattle.standard.specs.Names.{word32, fourBytes}
 use Rattle.standard.specs.NameList.{builtin}
 use Rattle.standard.specs.Reading.{answerTo, sizeOf, Stop, stopFrom, stopOf, covered, pieces, decode}
 use Rattle.standard.specs.Utf8.{readChar}
 use Rattle.standard.specs.Rooms.{fours}
 use Rattle.standard.proofs.Every.{All}
-use Rattle.standard.proofs.Puts.{laid-fours}
 use Rattle.standard.proofs.Choice.{if-both}
-use Rattle.standard.proofs.Stops.{OneOf, stop-place}
+use Rattle.standard.proofs.Stops.{stop-place}
 use Rattle.decoder.specs.declared.whole.Decoded.{Decoded}
-use Rattle.decoder.specs.Whole.{decoded, DecodesBytes}
+use Rattle.decoder.specs.Whole.{DecodesBytes}
 use Rattle.escaper.specs.declared.Mode.{Mode}
 use Rattle.escaper.specs.declared.Escaped.{Escaped}
 use Rattle.escaper.specs.Escape.{Escapes}
 use Rattle.checker.specs.declared.checking.Checked.{Checked}
-use Rattle.checker.specs.Transcript.{Row, rowsOf, Left, left, right, remains, Verdict, verdict, judge, verdictOn, checked, checkedOf, words, checkedBytes}
+use Rattle.checker.specs.Transcript.{Row, rowsOf, Left, left, right, remains, Verdict, verdict, judge, verdictOn}
+use Rattle.checker.specs.Transcript.{checked, checkedOf, words, checkedBytes}
 use Rattle.checker.proofs.RowLaws.{pieces-total}
 use Rattle.demands.proofs.RightRows.{Cuts, none, first}
 use Rattle.demands.proofs.Reaching.{Sized, pieces-sized, total-least}
 use Rattle.demands.proofs.Judging.{wrong-between, RowsAre, good, first-wrong, remaining, rowOf, judge-says, some-verdict}
 use Rattle.demands.proofs.Laws.{text-short, errors-few, escape-six}
+use Rattle.demands.proofs.DecodedBytes.{Did, refused, read, did}
 use Rattle.demands.proofs.Exports.{Reports, BytesCases, bytes-cases}
-use Rattle.demands.proofs.WholeAnswers as whole-answers
 use Rattle.demands.proofs.EscapeAnswers as escape-answers
 use Rattle.demands.proofs.CheckAnswers as check-answers
 
@@ -39,7 +39,8 @@ abbrev pub Small : ℕ → Type 0
 Small n = n < 4294967296
 
 -- A number's digits to the base 256 say it.
-digits-say : (n p q t : ℕ) → p ≡ n / 256 → q ≡ p / 256 → t ≡ q / 256 → t < 256 → n % 256 + 256 * (p % 256) + 65536 * (q % 256) + 16777216 * (t % 256) ≡ n
+digits-say : (n p q t : ℕ) → p ≡ n / 256 → q ≡ p / 256 → t ≡ q / 256 → t < 256
+    → n % 256 + 256 * (p % 256) + 65536 * (q % 256) + 16777216 * (t % 256) ≡ n
 digits-say n p q t a b c h = omega (arith, a, b, c, h)
 
 word-says : (n : ℕ) → Small n → word32 (fourBytes n) 0 ≡ n
@@ -62,40 +63,20 @@ report-read answer second third place w s = rw (w .1) (fours-say (answer ∷ sec
 -- The four numbers of an answer of `decode_bytes` are small.
 pub decode-small : {d : Decoded} {text′ errors′ : List ℕ} (context : Context) (source text errors : List ℕ)
     → DecodesBytes context source text errors d text′ errors′ → All Small (d .answer ∷ d .text ∷ d .errors ∷ d .place ∷ [])
-decode-small {d} {text′} {errors′} context source text errors w =
-    go (whole-answers.no-other laid-fours (length errors / 4) context source text errors d text′ errors′ w)
+decode-small {d} {text′} {errors′} context source text errors w = by (did context source text errors d text′ errors′ w)
   where
-    given : {answer asked count place : ℕ} → d ≡ decoded answer asked count place → Small answer → Small asked → Small count → Small place
-        → All Small (d .answer ∷ d .text ∷ d .errors ∷ d .place ∷ [])
-    given e a b c p = rw e (a, (b, (c, (p, tt))))
-
-    read : (answer place : ℕ) → Small answer → Small place → length source ≤ 65536
-        → d ≡ decoded answer (length (decode builtin context (covered context source) .text)) (length (decode builtin context (covered context source) .errors)) place
-        → All Small (d .answer ∷ d .text ∷ d .errors ∷ d .place ∷ [])
-    read answer place a p h e =
-        given e a (omega (arith, h, text-short context source, length-take (stopOf context source .place) source))
-        (omega (arith, h, errors-few context source)) p
-
-    go : (d .answer ≡ too-long) ⊎ ((d .answer ≡ room-asked) ⊎ OneOf (d .answer)) → All Small (d .answer ∷ d .text ∷ d .errors ∷ d .place ∷ [])
-    go (inl e) =
-        let l = whole-answers.line-3 laid-fours (length errors / 4) context source text errors d text′ errors′ w in
-        given (l .so (l .only e) .0) (omega arith) (omega arith) (omega arith) (omega arith)
-    go (inr (inl e)) =
-        let l = whole-answers.line-9 laid-fours (length errors / 4) context source text errors d text′ errors′ w in
-        given (l .so (l .only e) .0) (omega arith) (omega (arith, l .only e .0)) (omega arith) (omega arith)
-    go (inr (inr (inl e))) =
-        let l = whole-answers.line-0 laid-fours (length errors / 4) context source text errors d text′ errors′ w in
-        read done 0 (omega arith) (omega arith) (l .only e .0) (l .so (l .only e) .0)
-    go (inr (inr (inr (inl e)))) =
-        let l = whole-answers.line-1 laid-fours (length errors / 4) context source text errors d text′ errors′ w in
-        given (l .so (l .only e) .0) (omega arith) (omega arith) (omega arith) (omega (arith, l .only e .0, stop-place context source))
-    go (inr (inr (inr (inr (inl e))))) =
-        let l = whole-answers.line-2 laid-fours (length errors / 4) context source text errors d text′ errors′ w in
-        given (l .so (l .only e) .0) (omega arith) (omega arith) (omega arith) (omega (arith, l .only e .0, stop-place context source))
-    go (inr (inr (inr (inr (inr e))))) =
-        let l = whole-answers.line-7 laid-fours (length errors / 4) context source text errors d text′ errors′ w in
-        read context-end (stopOf context source .place) (omega arith) (omega (arith, l .only e .0, stop-place context source)) (l .only e .0)
-        (l .so (l .only e) .0)
+    by : Did context source text errors d text′ errors′ → All Small (d .answer ∷ d .text ∷ d .errors ∷ d .place ∷ [])
+    by (refused answer asked place is a b c kept) = rw is (omega (arith, a), (omega (arith, b), (omega arith, (omega (arith, c), tt))))
+    by (read answer place is a b short roomy written) =
+        let few = errors-few context source in
+        let text-few = text-short context source in
+        rw is (
+          omega (arith, a),
+          (
+            omega (arith, short, text-few, length-take (stopOf context source .place) source),
+            (omega (arith, short, few), (omega (arith, b), tt)),
+          ),
+        )
 
 -- Rows that cut are no more than the pieces.
 cuts-few : {l m : Left} {rows : List Row} → Cuts l rows m → length rows ≤ length (l .pieces)
@@ -153,24 +134,25 @@ check-small {c} context source rows text errors is = go (bytes-cases context sou
         → All Small (c .answer ∷ c .verdict ∷ c .row ∷ c .place ∷ [])
     given v x a b r p = rw x (a, (b, (r, (p, tt))))
 
-    refused : (answer place : ℕ) → c ≡ checked answer (verdict right 0) place → Small answer → Small place
+    refusal : (answer place : ℕ) → c ≡ checked answer (verdict right 0) place → Small answer → Small place
         → All Small (c .answer ∷ c .verdict ∷ c .row ∷ c .place ∷ [])
-    refused answer place x a p = given (verdict right 0) x a (omega arith) (omega arith) p
+    refusal answer place x a p = given (verdict right 0) x a (omega arith) (omega arith) p
 
     looked : c ≡ checkedOf builtin context source (words rows) text (words errors) → check-answers.Answer (c .answer)
         → All Small (c .answer ∷ c .verdict ∷ c .row ∷ c .place ∷ [])
     looked k (inl x) =
         let l = check-answers.line-3 context source (words rows) text (words errors) c k in
-        refused too-long 0 (l .so (l .only x)) (omega arith) (omega arith)
+        refusal too-long 0 (l .so (l .only x)) (omega arith) (omega arith)
     looked k (inr (inl x)) =
         let l = check-answers.line-10 context source (words rows) text (words errors) c k in
-        refused not-whole 0 (l .so (l .only x)) (omega arith) (omega arith)
+        refusal not-whole 0 (l .so (l .only x)) (omega arith) (omega arith)
     looked k (inr (inr (inl x))) =
         let l = check-answers.line-1 context source (words rows) text (words errors) c k in
-        refused ill-formed (stopOf context source .place) (l .so (l .only x)) (omega arith) (omega (arith, l .only x .0 .0, stop-place context source))
+        refusal ill-formed (stopOf context source .place) (l .so (l .only x)) (omega arith)
+        (omega (arith, l .only x .0 .0, stop-place context source))
     looked k (inr (inr (inr (inl x)))) =
         let l = check-answers.line-2 context source (words rows) text (words errors) c k in
-        refused nul (stopOf context source .place) (l .so (l .only x)) (omega arith) (omega (arith, l .only x .0 .0, stop-place context source))
+        refusal nul (stopOf context source .place) (l .so (l .only x)) (omega arith) (omega (arith, l .only x .0 .0, stop-place context source))
     looked k (inr (inr (inr (inr x)))) =
         let l = check-answers.line-0 context source (words rows) text (words errors) c k in
         let ps = pieces builtin context (covered context source) in
@@ -182,6 +164,6 @@ check-small {c} context source rows text errors is = go (bytes-cases context sou
         (omega arith)
 
     go : BytesCases context source rows text errors → All Small (c .answer ∷ c .verdict ∷ c .row ∷ c .place ∷ [])
-    go (inl e) = refused too-long 0 (is ∙ e) (omega arith) (omega arith)
-    go (inr (inl e)) = refused not-whole 0 (is ∙ e) (omega arith) (omega arith)
+    go (inl e) = refusal too-long 0 (is ∙ e) (omega arith) (omega arith)
+    go (inr (inl e)) = refusal not-whole 0 (is ∙ e) (omega arith) (omega arith)
     go (inr (inr e)) = looked (is ∙ e) (check-answers.no-other context source (words rows) text (words errors) c (is ∙ e))
