@@ -1,4 +1,4 @@
-// The functions for C: each refuses by 5 what its caller must not ask, or calls one function and reports what that answers.
+// The functions for C: each answers 5 to wrong use, and else calls one function and reports what that answers.
 ghost use mathlib.Core.Path.{_≡_};
 ghost use mathlib.Core.List.{_∷_, []};
 ghost use lib.ListN.{length};
@@ -21,6 +21,7 @@ fn put_report(report: &mut [u8], answer: u32, text: u32, errors: u32, place: u32
     answer
 }
 
+// Decodes in a context, and reports.
 fn decode_in(
     context: Context,
     source: &[u8],
@@ -42,7 +43,7 @@ fn decode_in(
     )
 }
 
-// Decodes a whole source into `text` and, as bytes, `errors`. The report: answer, text bytes, errors, place.
+// Decodes a whole source into `text`, and its errors as bytes into `errors`. The report: answer, text bytes, errors, place.
 #[no_mangle]
 pub extern "C" fn plankskein_decode(
     context: u32,
@@ -67,6 +68,7 @@ pub extern "C" fn plankskein_decode(
     5
 }
 
+// Escapes in a mode, and reports.
 fn escape_in(mode: Mode, input: &[u8], out: &mut [u8], report: &mut [u8]) -> u32
     requires { ⌜ length (now report) ≡ 16 ⌝ }
     ensures { λ r. ⌜ Gives (escapes (now (input .entry)) (now (out .entry)) mode)
@@ -99,6 +101,7 @@ pub extern "C" fn plankskein_escape(
     5
 }
 
+// Judges in a context, and reports.
 fn check_in(
     context: Context,
     source: &[u8],
