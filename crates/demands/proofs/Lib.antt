@@ -22,3 +22,4 @@ pub mod Program
 pub mod DecodedBytes
 pub mod Exports
 pub mod ReportNumbers
+pub mod ExportEdges
