@@ -59,8 +59,12 @@ table =
     ∷ (check 2 16 "a" (fours (1 ∷ 1 ∷ 0 ∷ [])) "a" [] gives untouched)
     ∷ []
 
+-- `unfolding computing-calls` opens the definitions of the three calls.
+unfoldable computing-calls : Unit {0}
+unfolding numbers fours answerOf writtenOf decodedOf writtenFor escapeFrom escapeAnswer escapeWritten escapedOf rowsOf total reached wrong judge
+computing-calls = tt
+
 -- The definitions give what each row says.
 pub export-edges : map (λ (r : Row). r .call) table ≡ map (λ (r : Row). r .gives) table
-unfolding computing zeros numbers fours answerOf writtenOf decodedOf writtenFor escapeFrom escapeAnswer escapeWritten escapedOf rowsOf total reached wrong
-    judge checkedOf words checkedBytes meant asked decodes escapes checks
+unfolding computing computing-calls zeros checkedOf words checkedBytes meant asked decodes escapes checks
 export-edges = refl
