@@ -1,11 +1,14 @@
 -- The report's length, then what the number means.
+use native.Mathlib.Omega.{arith}
 use Rattle.exports.proofs.Laws.{asked-length, asked-text, asked-attribute, asked-other, gives-as, gives-untouched}
 use borrow.Author.Needs.{needs}
 use Rattle.exports.proofs.plankskein_escape.Statement.{statement}
 use Rattle.exports.proofs.plankskein_escape.Tie as tie
 
 returns : tie.Need-returns
-returns c = gives-untouched _ _ _ (asked-length _ _ _ _ _ (c .if1 .taken))
+returns c =
+    let a = c .before .before .before .before .args in
+    gives-untouched _ _ _ (asked-length (a .report .now) _ _ _ _ (λ e. c .if1 .taken (omega (arith, e))))
 
 escape-in-requires : tie.Need-escape-in-requires
 escape-in-requires c κs = search needs
