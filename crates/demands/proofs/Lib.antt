@@ -19,3 +19,7 @@ pub mod CheckAnswers
 pub mod Transcript
 pub mod CheckEdges
 pub mod Program
+pub mod DecodedBytes
+pub mod Exports
+pub mod ReportNumbers
+pub mod ExportEdges

@@ -22,6 +22,12 @@ use Rattle.checker.proofs.check.Kinds as check-kinds
 use Rattle.checker.proofs.check.Reads as check-reads
 use Rattle.checker.proofs.check_bytes.Kinds as check-bytes-kinds
 use Rattle.checker.proofs.check_bytes.Reads as check-bytes-reads
+use Rattle.exports.proofs.plankskein_decode.Kinds as plankskein-decode-kinds
+use Rattle.exports.proofs.plankskein_decode.Reads as plankskein-decode-reads
+use Rattle.exports.proofs.plankskein_escape.Kinds as plankskein-escape-kinds
+use Rattle.exports.proofs.plankskein_escape.Reads as plankskein-escape-reads
+use Rattle.exports.proofs.plankskein_check.Kinds as plankskein-check-kinds
+use Rattle.exports.proofs.plankskein_check.Reads as plankskein-check-reads
 use Rattle.reporting.proofs.report.Kinds as report-kinds
 use Rattle.reporting.proofs.report.Reads as report-reads
 use Rattle.rooms.proofs.copy.Kinds as copy-kinds
@@ -118,3 +124,22 @@ report κs a x y e f p q = (
   only (p .written .next-is) (q .written .next-is),
   λ i. (only (p .written .new-is) (q .written .new-is) i, only (p .numbers-of) (q .numbers-of) i),
 )
+
+-- For C: the number returned, each room, and the report.
+pub plankskein-decode : FixesLent 4 plankskein-decode-kinds.ps plankskein-decode-kinds.r (List ℕ × List ℕ × List ℕ)
+    (λ κs e. (e .1 .1 .0 .now, e .1 .1 .1 .0 .now, e .1 .1 .1 .1 .0 .now)) plankskein-decode-reads.Post
+plankskein-decode κs a x y e f p q = (
+  only (p .answered) (q .answered),
+  λ i. (only (p .texts) (q .texts) i, only (p .numbers-of) (q .numbers-of) i, only (p .reports) (q .reports) i),
+)
+
+pub plankskein-escape : FixesLent 3 plankskein-escape-kinds.ps plankskein-escape-kinds.r (List ℕ × List ℕ)
+    (λ κs e. (e .1 .1 .0 .now, e .1 .1 .1 .0 .now)) plankskein-escape-reads.Post
+plankskein-escape κs a x y e f p q = (
+  only (p .answered) (q .answered),
+  λ i. (only (p .texts) (q .texts) i, only (p .reports) (q .reports) i),
+)
+
+pub plankskein-check : FixesLent 5 plankskein-check-kinds.ps plankskein-check-kinds.r (List ℕ) (λ κs e. e .1 .1 .1 .1 .1 .0 .now)
+    plankskein-check-reads.Post
+plankskein-check κs a x y e f p q = (only (p .answered) (q .answered), only (p .reports) (q .reports))

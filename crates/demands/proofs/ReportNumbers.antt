@@ -1,0 +1,169 @@
+-- Document 01, 'numbers in slices are four bytes, little-endian': four bytes say each number that the exports report, since it is below 2^32.
+use Prim.Native.Nat.{ℕ, zero, suc, _+_, _-_, _*_, _/_, _%_, _≤_, _<_}
+use mathlib.Core.Path.{_≡_, refl, _∙_, ap}
+use mathlib.Core.List.{List, [], _∷_}
+use mathlib.Core.Logic.{_⊎_, inl, inr}
+use native.Mathlib.Omega.{arith}
+use lib.Dec.{eqb}
+use lib.ListN.{length, length-append, length-take}
+use Rattle.standard.specs.declared.Context.{Context}
+use Rattle.standard.specs.Answers.{done, ill-formed, nul, too-long, room-asked, not-whole}
+use Rattle.standard.specs.Names.{word32, fourBytes}
+use Rattle.standard.specs.NameList.{builtin}
+use Rattle.standard.specs.Reading.{answerTo, sizeOf, Stop, stopFrom, stopOf, covered, pieces, decode}
+use Rattle.standard.specs.Utf8.{readChar}
+use Rattle.standard.specs.Rooms.{fours}
+use Rattle.standard.proofs.Every.{All}
+use Rattle.standard.proofs.Choice.{if-both}
+use Rattle.standard.proofs.Stops.{stop-place}
+use Rattle.decoder.specs.declared.whole.Decoded.{Decoded}
+use Rattle.decoder.specs.Whole.{DecodesBytes}
+use Rattle.escaper.specs.declared.Mode.{Mode}
+use Rattle.escaper.specs.declared.Escaped.{Escaped}
+use Rattle.escaper.specs.Escape.{Escapes}
+use Rattle.checker.specs.declared.checking.Checked.{Checked}
+use Rattle.checker.specs.Transcript.{Row, rowsOf, Left, left, right, remains, Verdict, verdict, judge, verdictOn}
+use Rattle.checker.specs.Transcript.{checked, checkedOf, words, checkedBytes}
+use Rattle.checker.proofs.RowLaws.{pieces-total}
+use Rattle.demands.proofs.RightRows.{Cuts, none, first}
+use Rattle.demands.proofs.Reaching.{Sized, pieces-sized, total-least}
+use Rattle.demands.proofs.Judging.{wrong-between, RowsAre, good, first-wrong, remaining, rowOf, judge-says, some-verdict}
+use Rattle.demands.proofs.Laws.{text-short, errors-few, escape-six}
+use Rattle.demands.proofs.DecodedBytes.{Did, refused, read, did}
+use Rattle.demands.proofs.Exports.{Reports, BytesCases, bytes-cases}
+use Rattle.demands.proofs.EscapeAnswers as escape-answers
+use Rattle.demands.proofs.CheckAnswers as check-answers
+
+-- A number that fits into four bytes.
+abbrev pub Small : ℕ → Type 0
+Small n = n < 4294967296
+
+-- A number's digits to the base 256 say it.
+digits-say : (n p q t : ℕ) → p ≡ n / 256 → q ≡ p / 256 → t ≡ q / 256 → t < 256
+    → n % 256 + 256 * (p % 256) + 65536 * (q % 256) + 16777216 * (t % 256) ≡ n
+digits-say n p q t a b c h = omega (arith, a, b, c, h)
+
+word-says : (n : ℕ) → Small n → word32 (fourBytes n) 0 ≡ n
+word-says n h =
+    let second : n / 65536 ≡ n / 256 / 256 = omega arith in
+    let third : n / 16777216 ≡ n / 65536 / 256 = omega arith in
+    digits-say n (n / 256) (n / 65536) (n / 16777216) refl second third (omega (arith, h))
+
+-- Its four bytes say it.
+pub fours-say : (ns : List ℕ) → All Small ns → words (fours ns) ≡ ns
+unfolding words fours
+fours-say [] s = refl
+fours-say (n ∷ ns) s = rw (fours-say ns (s .1)) (ap (λ (k : ℕ). k ∷ ns) (word-says n (s .0)))
+
+-- So a report of such numbers is read back.
+pub report-read : {r : ℕ} {report′ : List ℕ} (answer second third place : ℕ) → Reports r report′ answer second third place
+    → All Small (answer ∷ second ∷ third ∷ place ∷ []) → words report′ ≡ answer ∷ second ∷ third ∷ place ∷ []
+report-read answer second third place w s = rw (w .1) (fours-say (answer ∷ second ∷ third ∷ place ∷ []) s)
+
+-- The four numbers of an answer of `decode_bytes` are small.
+pub decode-small : {d : Decoded} {text′ errors′ : List ℕ} (context : Context) (source text errors : List ℕ)
+    → DecodesBytes context source text errors d text′ errors′ → All Small (d .answer ∷ d .text ∷ d .errors ∷ d .place ∷ [])
+decode-small {d} {text′} {errors′} context source text errors w = by (did context source text errors d text′ errors′ w)
+  where
+    by : Did context source text errors d text′ errors′ → All Small (d .answer ∷ d .text ∷ d .errors ∷ d .place ∷ [])
+    by (refused answer asked place is a b c kept) = rw is (omega (arith, a), (omega (arith, b), (omega arith, (omega (arith, c), tt))))
+    by (read answer place is a b short roomy written) =
+        let few = errors-few context source in
+        let text-few = text-short context source in
+        rw is (
+          omega (arith, a),
+          (
+            omega (arith, short, text-few, length-take (stopOf context source .place) source),
+            (omega (arith, short, few), (omega (arith, b), tt)),
+          ),
+        )
+
+-- Rows that cut are no more than the pieces.
+cuts-few : {l m : Left} {rows : List Row} → Cuts l rows m → length rows ≤ length (l .pieces)
+cuts-few none = omega arith
+cuts-few {l} (first {m = m} x c) =
+    omega (arith, cuts-few c, x .ending .some, ap length (x .ending .cut) ∙ length-append (x .next) (m .pieces))
+
+-- A verdict is at most 5, and names a row that is not past the pieces.
+verdict-small : (l : Left) (rows : List Row) → Sized (l .pieces) → (judge 0 l rows .reason ≤ remains) × (judge 0 l rows .at-row ≤ length (l .pieces))
+verdict-small l rows sized = let v = some-verdict l rows sized in rw (judge-says l rows sized (v .1)) (by (v .1))
+  where
+    by : {reason : ℕ} (j : RowsAre l rows reason) → (reason ≤ remains) × (rowOf j ≤ length (l .pieces))
+    by (good g) = (omega arith, omega arith)
+    by (remaining g) = (omega arith, cuts-few (g .cuts))
+    by (first-wrong w) = (omega (arith, wrong-between (w .wrong) .1), cuts-few (w .cuts))
+
+-- An input of `escape` stops within its bytes.
+stop-near : (k place : ℕ) (s : List ℕ) → stopFrom (λ c. done) k place s .place ≤ place + length s
+unfolding stopFrom
+stop-near zero place [] = omega arith
+stop-near (suc k) place [] = omega arith
+stop-near zero place (b ∷ s) =
+    if-both (λ (x : Stop). x .place ≤ place + length (b ∷ s)) (eqb (answerTo (λ c. done) (readChar (b ∷ s))) done) _ _
+    (λ t. omega (arith, stop-near (sizeOf (readChar (b ∷ s)) - 1) (suc place) s)) (λ f. omega arith)
+stop-near (suc k) place (b ∷ s) = omega (arith, stop-near k (suc place) s)
+
+-- Those of an answer of `escape`, and no errors.
+pub escape-small : {e : Escaped} {out′ : List ℕ} (mode : Mode) (input out : List ℕ) → Escapes mode input out e out′
+    → All Small (e .answer ∷ e .text ∷ 0 ∷ e .place ∷ [])
+escape-small {e} {out′} mode input out w = go (escape-answers.no-other mode input out e out′ w)
+  where
+    given : {answer text place : ℕ} → e ≡ escape-answers.escaped answer text place → Small answer → Small text → Small place
+        → All Small (e .answer ∷ e .text ∷ 0 ∷ e .place ∷ [])
+    given x a b p = rw x (a, (b, (omega arith, (p, tt))))
+
+    go : (e .answer ≡ too-long) ⊎ ((e .answer ≡ ill-formed) ⊎ ((e .answer ≡ room-asked) ⊎ (e .answer ≡ done)))
+        → All Small (e .answer ∷ e .text ∷ 0 ∷ e .place ∷ [])
+    go (inl x) = let l = escape-answers.line-3 mode input out e out′ w in given (l .so (l .only x) .0) (omega arith) (omega arith) (omega arith)
+    go (inr (inl x)) =
+        let l = escape-answers.line-1 mode input out e out′ w in
+        given (l .so (l .only x) .0) (omega arith) (omega arith) (omega (arith, l .only x .0, stop-near 0 0 input))
+    go (inr (inr (inl x))) =
+        let l = escape-answers.line-9 mode input out e out′ w in
+        given (l .so (l .only x) .0) (omega arith) (omega (arith, l .only x .0 .0, escape-six mode input)) (omega arith)
+    go (inr (inr (inr x))) =
+        let l = escape-answers.line-0 mode input out e out′ w in
+        given (l .so (l .only x) .0) (omega arith) (omega (arith, l .only x .0 .0, escape-six mode input)) (omega arith)
+
+-- Those of an answer of `check_bytes`.
+pub check-small : {c : Checked} (context : Context) (source rows text errors : List ℕ) → c ≡ checkedBytes builtin context source rows text errors
+    → All Small (c .answer ∷ c .verdict ∷ c .row ∷ c .place ∷ [])
+check-small {c} context source rows text errors is = go (bytes-cases context source rows text errors)
+  where
+    given : {answer place : ℕ} (v : Verdict) → c ≡ checked answer v place → Small answer → Small (v .reason) → Small (v .at-row) → Small place
+        → All Small (c .answer ∷ c .verdict ∷ c .row ∷ c .place ∷ [])
+    given v x a b r p = rw x (a, (b, (r, (p, tt))))
+
+    refusal : (answer place : ℕ) → c ≡ checked answer (verdict right 0) place → Small answer → Small place
+        → All Small (c .answer ∷ c .verdict ∷ c .row ∷ c .place ∷ [])
+    refusal answer place x a p = given (verdict right 0) x a (omega arith) (omega arith) p
+
+    looked : c ≡ checkedOf builtin context source (words rows) text (words errors) → check-answers.Answer (c .answer)
+        → All Small (c .answer ∷ c .verdict ∷ c .row ∷ c .place ∷ [])
+    looked k (inl x) =
+        let l = check-answers.line-3 context source (words rows) text (words errors) c k in
+        refusal too-long 0 (l .so (l .only x)) (omega arith) (omega arith)
+    looked k (inr (inl x)) =
+        let l = check-answers.line-10 context source (words rows) text (words errors) c k in
+        refusal not-whole 0 (l .so (l .only x)) (omega arith) (omega arith)
+    looked k (inr (inr (inl x))) =
+        let l = check-answers.line-1 context source (words rows) text (words errors) c k in
+        refusal ill-formed (stopOf context source .place) (l .so (l .only x)) (omega arith)
+        (omega (arith, l .only x .0 .0, stop-place context source))
+    looked k (inr (inr (inr (inl x)))) =
+        let l = check-answers.line-2 context source (words rows) text (words errors) c k in
+        refusal nul (stopOf context source .place) (l .so (l .only x)) (omega arith) (omega (arith, l .only x .0 .0, stop-place context source))
+    looked k (inr (inr (inr (inr x)))) =
+        let l = check-answers.line-0 context source (words rows) text (words errors) c k in
+        let ps = pieces builtin context (covered context source) in
+        let small = verdict-small (left 0 ps text (words errors)) (rowsOf (words rows)) (pieces-sized builtin context (covered context source)) in
+        let few = total-least ps (pieces-sized builtin context (covered context source)) in
+        let all = pieces-total builtin context (covered context source) in
+        given (verdictOn builtin context (covered context source) (words rows) text (words errors)) (l .so (l .only x)) (omega arith)
+        (omega (arith, small .0)) (omega (arith, small .1, few, all, l .only x .0 .0, length-take (stopOf context source .place) source))
+        (omega arith)
+
+    go : BytesCases context source rows text errors → All Small (c .answer ∷ c .verdict ∷ c .row ∷ c .place ∷ [])
+    go (inl e) = refusal too-long 0 (is ∙ e) (omega arith) (omega arith)
+    go (inr (inl e)) = refusal not-whole 0 (is ∙ e) (omega arith) (omega arith)
+    go (inr (inr e)) = looked (is ∙ e) (check-answers.no-other context source (words rows) text (words errors) c (is ∙ e))

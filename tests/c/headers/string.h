@@ -1,0 +1,9 @@
+/* For the gate alone: the kit has no C headers. */
+#ifndef HEADERS_STRING_H
+#define HEADERS_STRING_H
+#include <stddef.h>
+int memcmp(const void *, const void *, size_t);
+void *memcpy(void *, const void *, size_t);
+void *memset(void *, int, size_t);
+size_t strlen(const char *);
+#endif
