@@ -14,7 +14,7 @@ use lines::put_read;
 use lines::put_refused;
 use standard::Context;
 
-// As many bytes of an input tell its report.
+// As many bytes of an input tell its report: one more than it may have.
 pub const INPUT_ROOM: usize = 4099;
 
 // The room for a report, and for the numbers of errors.
@@ -64,13 +64,13 @@ fn write_source(context: Context, s: &[u8], out: &mut [u8], errors: &mut [u32]) 
     put_refused(out, 0, decoded.answer, decoded.place)
 }
 
-// Writes the report of a source that may be too long.
+// Writes the report of a source that may be too long: so long that with its start it fills the room for an input.
 fn report_source(context: Context, s: &[u8], out: &mut [u8], errors: &mut [u32]) -> usize
     requires { ⌜ Roomy (now out) (now errors) ⌝ }
     ensures { λ r. ⌜ Fills (forSource (line (bytes "too long")) sourceReport context (now (s .entry)))
         (forSource [] sourceErrors context (now (s .entry))) (now (out .entry)) (now (errors .entry)) r (now (out .exit)) (now (errors .exit)) ⌝ }
 {
-    if 4096 < s.len() {
+    if INPUT_ROOM - 2 <= s.len() {
         return rooms::copy(b"too long\n", out, 0);
     }
     write_source(context, s, out, errors)
