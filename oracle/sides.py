@@ -34,7 +34,8 @@ def number(value):
 
 def answer(text, codes):
     """One answer."""
-    return number(len(text)) + text + number(len(codes)) + bytes(codes)
+    codes = bytes(codes)
+    return number(len(text)) + text + number(len(codes)) + codes
 
 
 def split(answers):
@@ -177,26 +178,23 @@ class Lines:
 
 
 class Whole(Lines):
-    """Ours, whole: decode_whole and escape, through the program replay_whole."""
+    """Ours, whole: decode_whole and escape, through the program replay_rust."""
 
     name = "ours, whole"
 
     def __init__(self):
-        super().__init__("replay_whole", 640_000)
+        super().__init__("replay_rust", 400_000)
 
     def answers(self, kinds, sources):
-        """Text and codes of every line; one that has another answer than 0 and 7 differs from anything."""
-        records = [struct.pack("<BIIIH", kind, 6 * len(source) + 64, 2 * len(source) + 8, 0, len(source)) + source
-                   for source in sources for kind in kinds]
-        texts = 4 if kinds == DECODE else 3
+        """Text and codes of every line; a refusal differs from anything."""
+        records = [struct.pack("<BH", kind, len(source)) + source for source in sources for kind in kinds]
         out = []
         for line in self.run(records):
-            words = line.split(b" ")
-            if words[0] not in (b"0", b"7") or words[-1] == b"TOUCHED" or b":" in words[texts]:
-                out.append(answer(b"?" + line, []))
+            text, *codes = line.split(b" ")
+            if text == b"refused":
+                out.append(answer(b"?refused", []))
             else:
-                text = b"" if words[texts] == b"-" else bytes.fromhex(words[texts].decode())
-                out.append(answer(text, [int(word[:1]) for word in words[texts + 1:]]))
+                out.append(answer(b"" if text == b"-" else bytes.fromhex(text.decode()), map(int, codes)))
         return b"".join(out)
 
     def decode(self, batch):
@@ -208,10 +206,18 @@ class Whole(Lines):
         return self.answers(ESCAPE, batch.sources)
 
 
+# The longest chunk of a source is one of these: bytes singly, a few, and all at once. Rooms are so much larger than the least: with nothing
+# more, a call writes once.
+LONGEST = (1, 4, 16, 300)
+MORE_TEXT = (0, 1, 5, 20, 100)
+MORE_ERRORS = (0, 1, 2, 5, 30)
+
+
 class Stream(Lines):
-    """Ours, in chunks: the stream through the program replay_stream, cut at random, with rooms little larger than the least."""
+    """Ours, in chunks: the stream through the program replay_stream, cut at random, with small rooms."""
 
     name = "ours, in chunks"
+    tries = 8
 
     def __init__(self, seed):
         super().__init__("replay_stream", 400_000)
@@ -220,16 +226,22 @@ class Stream(Lines):
 
     def record(self, kind, source):
         """A source with lengths of chunks and rooms."""
-        longest = self.draw.choice((1, 2, 3, 5, 8, 40, 300))
+        draw = self.draw.random
+        longest = max(LONGEST[int(draw() * len(LONGEST))], len(source) // 8)
         left, lengths = len(source), []
         while left:
-            lengths.append(min(left, self.draw.randint(1, longest)))
+            lengths.append(min(left, int(draw() * longest) + 1))
             left -= lengths[-1]
-        if self.draw.random() < 0.1:
-            lengths.insert(self.draw.randint(0, len(lengths)), 0)
-        rooms = 64 + int(self.draw.random() * 9), 8 + int(self.draw.random() * 4)
-        self.cuts.append(f"chunks of {' '.join(map(str, lengths))} bytes, room for {rooms[0]} bytes and {rooms[1]} numbers")
+        if draw() < 0.1:
+            lengths.insert(int(draw() * (len(lengths) + 1)), 0)
+        rooms = 64 + MORE_TEXT[int(draw() * len(MORE_TEXT))], 8 + MORE_ERRORS[int(draw() * len(MORE_ERRORS))]
+        self.cuts.append((lengths, rooms))
         return struct.pack(f"<BIIIHH{len(lengths)}H", kind, *rooms, 0, len(source), 2 * len(lengths), *lengths) + source
+
+    def explain(self, index):
+        """How a source of the last batch was handed over."""
+        lengths, (text, errors) = self.cuts[index]
+        return f"chunks of {' '.join(map(str, lengths))} bytes, room for {text} bytes and {errors} numbers"
 
     def decode(self, batch):
         """Both contexts: text and codes of all calls, joined; a call with an answer that a readable source never has differs from anything."""
