@@ -5,6 +5,7 @@
 
 So two sides agree on a batch exactly when these bytes are equal.
 """
+import os
 import platform
 import random
 import shutil
@@ -77,18 +78,19 @@ class Batch:
 class Framed:
     """A process that reads a frame and writes one, again and again."""
 
-    def __init__(self, name, command):
+    def __init__(self, name, command, **environment):
         self.name = name
-        self.process = subprocess.Popen(command, stdin=subprocess.PIPE, stdout=subprocess.PIPE)
+        self.process = subprocess.Popen(command, stdin=subprocess.PIPE, stdout=subprocess.PIPE, env=os.environ | environment)
 
     def ask(self, frame):
         """Hand over a frame and take the answers."""
-        self.process.stdin.write(frame)
-        self.process.stdin.flush()
-        head = self.process.stdout.read(4)
-        if len(head) < 4:
-            raise EOFError(f"{self.name} stopped: what it said stands above")
-        return self.process.stdout.read(*struct.unpack("<I", head))
+        try:
+            self.process.stdin.write(frame)
+            self.process.stdin.flush()
+            length, = struct.unpack("<I", self.process.stdout.read(4))
+            return self.process.stdout.read(length)
+        except (BrokenPipeError, struct.error):
+            stop(f"{self.name} stopped: what it said stands above")
 
     def decode(self, batch):
         """Both contexts."""
@@ -118,7 +120,7 @@ def parse5():
     """Debian's node-parse5: text and codes."""
     if not Path("/usr/share/nodejs/parse5").exists() or not shutil.which("node"):
         stop("a package is missing: apt-get install nodejs node-parse5")
-    return Framed("parse5", ["node", HERE / "parse5.js"])
+    return Framed("parse5", ["node", HERE / "parse5.js"], NODE_PATH="/usr/share/nodejs")
 
 
 def html5lib():
