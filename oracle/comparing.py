@@ -1,4 +1,5 @@
 """Comparing sides on groups of sources: batches go to every side, and a difference is shown with its smallest form."""
+import argparse
 import sys
 import time
 from itertools import islice
@@ -107,12 +108,22 @@ class Comparison:
         sys.exit(self.differ != 0)
 
 
-def add_options(parser):
-    """What and how much is compared."""
+class Parser(argparse.ArgumentParser):
+    """Options; wrong use prints one line."""
+
+    def error(self, message):
+        stop(f"usage: {self.usage}")
+
+
+def read_options(usage, add_own):
+    """What and how much is compared, and what a command adds to that."""
+    parser = Parser(usage=f"{usage} [--quick] [--random N] [--seed N] [--group NAME]")
+    add_own(parser)
     parser.add_argument("--quick", action="store_true")
     parser.add_argument("--random", type=int)
     parser.add_argument("--seed", type=int, default=1)
     parser.add_argument("--group")
+    return parser.parse_args()
 
 
 def chosen_groups(options, groups, count):

@@ -25,6 +25,22 @@ def chosen_names():
     return names
 
 
+NAMES = frozenset(chosen_names())
+LONGEST = max(map(len, html5))
+
+
+def same_names(source):
+    """Whether the whole published list finds at each `&` just what the 216 names find."""
+    at = source.find("&")
+    while at >= 0:
+        rest = source[at + 1:at + 1 + LONGEST]
+        match = next((rest[:end] for end in range(len(rest), 1, -1) if rest[:end] in html5), None)
+        if match is not None and match not in NAMES:
+            return False
+        at = source.find("&", at + 1)
+    return True
+
+
 if __name__ == "__main__":
     for name, characters in sorted(chosen_names().items()):
         print(name, *(f"{ord(character):X}" for character in characters))

@@ -18,9 +18,11 @@ const CODES = {
     'noncharacter-in-input-stream': 5,
 };
 
-// What the tokenizer says of a page: its text, its codes, its tags.
+// What the tokenizer says of a page: its text, its codes, its tags. It looks at the character after a reference before it reports an error of
+// that reference, both at the same offset: there the character's own error, 5, is put last.
 function tokenize(page) {
     const heard = { text: '', codes: [], tags: [] };
+    const errors = [];
     const more = (token) => {
         heard.text += token.chars;
     };
@@ -34,10 +36,12 @@ function tokenize(page) {
         onComment: nothing,
         onDoctype: nothing,
         onEof: nothing,
-        onParseError: (error) => heard.codes.push(CODES[error.code] || 255),
+        onParseError: (error) => errors.push({ code: CODES[error.code] || 255, offset: error.startOffset }),
     };
     const tokenizer = new Tokenizer({ sourceCodeLocationInfo: false }, handler);
     tokenizer.write(page, true);
+    errors.sort((one, other) => one.offset - other.offset || (one.code === 5) - (other.code === 5));
+    heard.codes = errors.map((error) => error.code);
     return heard;
 }
 

@@ -258,3 +258,8 @@ class Stream(Lines):
             text = bytes.fromhex(b"".join(call[5] for call in calls if call[5] != b"-").decode())
             out.append(answer(text, [int(word[:1]) for call in calls for word in call[6:]]))
         return b"".join(out)
+
+
+def whole():
+    """Ours, whole."""
+    return Whole()
