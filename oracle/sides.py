@@ -209,7 +209,7 @@ class Whole(Lines):
 
 
 # The longest chunk of a source is one of these: bytes singly, a few, and all at once. Rooms are so much larger than the least: with nothing
-# more, a call writes once.
+# more, a call writes once. All grow with the source, so that a long one takes no more than some dozen calls.
 LONGEST = (1, 4, 16, 300)
 MORE_TEXT = (0, 1, 5, 20, 100)
 MORE_ERRORS = (0, 1, 2, 5, 30)
@@ -229,14 +229,14 @@ class Stream(Lines):
     def record(self, kind, source):
         """A source with lengths of chunks and rooms."""
         draw = self.draw.random
-        longest = max(LONGEST[int(draw() * len(LONGEST))], len(source) // 8)
+        longest = LONGEST[int(draw() * len(LONGEST))] + len(source) // 6
         left, lengths = len(source), []
         while left:
             lengths.append(min(left, int(draw() * longest) + 1))
             left -= lengths[-1]
         if draw() < 0.1:
             lengths.insert(int(draw() * (len(lengths) + 1)), 0)
-        rooms = 64 + MORE_TEXT[int(draw() * len(MORE_TEXT))], 8 + MORE_ERRORS[int(draw() * len(MORE_ERRORS))]
+        rooms = 64 + MORE_TEXT[int(draw() * len(MORE_TEXT))] + len(source) // 6, 8 + MORE_ERRORS[int(draw() * len(MORE_ERRORS))] + len(source) // 20
         self.cuts.append((lengths, rooms))
         return struct.pack(f"<BIIIHH{len(lengths)}H", kind, *rooms, 0, len(source), 2 * len(lengths), *lengths) + source
 

@@ -2,6 +2,7 @@
 //
 //     witness whole           hands a source to html5ever in one part
 //     witness characters      hands it over character by character
+//     witness say T|A SOURCE  reads no frames, and prints for one source the text and html5ever's own messages
 //
 // A frame is its length in four bytes, little-endian as all numbers here, and records: a kind, the source's length in four bytes, and
 // the source, in UTF-8. Kinds are T and A, decode in text and in an attribute, and t and a, escape in text and in attribute mode. The
@@ -209,12 +210,26 @@ fn answer_frame(way: Way, mut frame: &[u8]) -> Vec<u8> {
     out
 }
 
+fn say(kind: &str, source: &str) {
+    let heard = if kind == "T" { decode_text(Way::Whole, source) } else { decode_attribute(Way::Whole, source) };
+    println!("{:?}", heard.text);
+    for (code, message) in heard.codes.iter().zip(&heard.messages) {
+        println!("{code} {message}");
+    }
+}
+
 fn main() -> io::Result<()> {
-    let way = match std::env::args().nth(1).as_deref() {
-        Some("whole") => Way::Whole,
-        Some("characters") => Way::Characters,
+    let arguments: Vec<String> = std::env::args().skip(1).collect();
+    let words: Vec<&str> = arguments.iter().map(String::as_str).collect();
+    let way = match words[..] {
+        ["whole"] => Way::Whole,
+        ["characters"] => Way::Characters,
+        ["say", kind @ ("T" | "A"), source] => {
+            say(kind, source);
+            return Ok(());
+        },
         _ => {
-            eprintln!("usage: witness whole | witness characters");
+            eprintln!("usage: witness whole | witness characters | witness say T|A SOURCE");
             std::process::exit(2)
         },
     };
