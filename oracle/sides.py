@@ -155,6 +155,11 @@ def built(name):
     return program
 
 
+def exports():
+    """Ours, through the C exports."""
+    return Framed("ours, exports", [ROOT / "run-c", HERE / "ours.c"])
+
+
 class Lines:
     """A program that reads a list of records and writes a line for each; a process for as many records as it takes."""
 
@@ -258,8 +263,3 @@ class Stream(Lines):
             text = bytes.fromhex(b"".join(call[5] for call in calls if call[5] != b"-").decode())
             out.append(answer(text, [int(word[:1]) for call in calls for word in call[6:]]))
         return b"".join(out)
-
-
-def whole():
-    """Ours, whole."""
-    return Whole()
