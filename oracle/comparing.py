@@ -5,6 +5,7 @@ import time
 from itertools import islice
 
 from sides import Batch, split, stop
+from sources import groups
 
 BATCH = 4_000
 MOST_SHOWN = 20
@@ -126,10 +127,10 @@ def read_options(usage, add_own):
     return parser.parse_args()
 
 
-def chosen_groups(options, groups, count):
-    """The groups that options ask for: so many random sources, unless told otherwise."""
-    count = options.random if options.random is not None else 10_000 if options.quick else count
-    all_groups = groups(count, options.seed, 2 if options.quick else 4)
+def chosen_groups(options):
+    """The groups that options ask for: a million random sources, unless told otherwise."""
+    count = options.random if options.random is not None else 10_000 if options.quick else 1_000_000
+    all_groups = groups(count, options.seed, options.quick)
     if options.group is not None and options.group not in all_groups:
         stop(f"no group {options.group!r}: give one of {', '.join(map(repr, all_groups))}")
     return {name: group for name, group in all_groups.items() if options.group in (None, name)}

@@ -2,6 +2,7 @@
 'use strict';
 
 const fs = require('fs');
+const { escapeAttribute, escapeText } = require('entities/lib/escape.js');
 const { Tokenizer } = require('/usr/share/nodejs/parse5/dist/cjs/tokenizer/index.js');
 
 // Document 01's codes for the standard's; any other is 255.
@@ -59,8 +60,16 @@ function decodeAttribute(source) {
     return heard;
 }
 
+// What its serializer calls. In attribute mode it leaves `<` and `>` as they are, by an older state of the standard: they are replaced here.
+function escapeIn(kind, source) {
+    const text = kind === 't' ? escapeText(source) : escapeAttribute(source).replaceAll('<', '&lt;').replaceAll('>', '&gt;');
+    return { text, codes: [] };
+}
+
+const CALLS = { T: decodeText, A: decodeAttribute, t: (source) => escapeIn('t', source), a: (source) => escapeIn('a', source) };
+
 function answer(kind, source) {
-    const heard = kind === 'T' ? decodeText(source) : decodeAttribute(source);
+    const heard = CALLS[kind](source);
     const text = Buffer.from(heard.text, 'utf8');
     const out = Buffer.alloc(8 + text.length + heard.codes.length);
     out.writeUInt32LE(text.length, 0);

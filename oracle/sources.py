@@ -30,14 +30,14 @@ def is_scalar(value):
     return value != 0 and not 0xD800 <= value <= 0xDFFF
 
 
-def scalar_values():
-    """Every scalar value as text: one by one up to U+07FF and around the ends of the other lengths, then sixteen in a source."""
+def scalar_values(step=1):
+    """Every scalar value as text: one by one up to U+07FF and around the ends of other ranges, then sixteen in a source (or some of these)."""
     alone = {value + step for value in (0xD800, 0xE000, 0xFDD0, 0xFDF0, 0xFEFF, 0xFFFD, 0x10000, 0x110000) for step in range(-16, 16)}
     for value in sorted(set(range(0x800)) | alone):
         if value < 0x110000 and is_scalar(value):
             yield chr(value)
             yield "\r" + chr(value) + "&"
-    for start in range(0, 0x110000, 16):
+    for start in range(0, 0x110000, 16 * step):
         yield "".join(chr(value) for value in range(start, start + 16) if is_scalar(value) and chr(value) not in '<"&')
 
 
@@ -46,9 +46,9 @@ def forms(value):
     return f"&#{value};&#x{value:X};&#{value}&#X{value:x}"
 
 
-def numbers():
-    """All numeric references to 110010 hex, four values in a source."""
-    for start in range(0, 0x110011, 4):
+def numbers(step=1):
+    """All numeric references to 110010 hex, four values in a source (or some of these)."""
+    for start in range(0, 0x110011, 4 * step):
         yield "".join(forms(value) for value in range(start, min(start + 4, 0x110011)))
 
 
@@ -147,12 +147,13 @@ def runs(count, seed):
         yield "".join(pieces)
 
 
-def groups(count, seed, most=4):
-    """Every group by its name: so many random sources, and sequences of up to so many symbols."""
+def groups(count, seed, quick):
+    """Every group by its name, with so many random sources; or, quickly, with less of each."""
+    most, step = (2, 64) if quick else (4, 1)
     return {
         "sequences": lambda: sequences(most),
-        "scalar values": scalar_values,
-        "numbers": numbers,
+        "scalar values": lambda: scalar_values(step),
+        "numbers": lambda: numbers(step),
         "powers of two": powers,
         "names": names,
         "random": lambda: drawn(count, seed),
