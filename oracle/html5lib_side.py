@@ -31,7 +31,10 @@ def answers(frame):
     while at < len(frame):
         end = at + 5 + struct.unpack_from("<I", frame, at + 1)[0]
         decode = decode_text if frame[at:at + 1] == b"T" else decode_attribute
-        text = decode(frame[at + 5:end].decode()).encode(errors="surrogatepass")
+        try:
+            text = decode(frame[at + 5:end].decode()).encode(errors="surrogatepass")
+        except Exception as error:  # any failure is an answer, and is compared
+            text = f"failed: {error!r}".encode()
         yield struct.pack("<I", len(text)) + text + bytes(4)
         at = end
 

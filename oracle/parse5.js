@@ -69,7 +69,12 @@ function escapeIn(kind, source) {
 const CALLS = { T: decodeText, A: decodeAttribute, t: (source) => escapeIn('t', source), a: (source) => escapeIn('a', source) };
 
 function answer(kind, source) {
-    const heard = CALLS[kind](source);
+    let heard;
+    try {
+        heard = CALLS[kind](source);
+    } catch (error) {
+        heard = { text: `failed: ${error}`, codes: [] };
+    }
     const text = Buffer.from(heard.text, 'utf8');
     const out = Buffer.alloc(8 + text.length + heard.codes.length);
     out.writeUInt32LE(text.length, 0);

@@ -1,7 +1,8 @@
 """The sides of a comparison. Each is asked for a batch of sources and gives its answers as bytes, all in the same form:
 
     for each source, in text and then in an attribute (or escaped in text and then in attribute mode): the text's length in four bytes,
-    little-endian, the text, how many errors there are in four bytes, and a byte for each error: document 01's code.
+    little-endian, the text, how many errors there are in four bytes, and a byte for each error: document 01's code. (A witness that failed on
+    a source gives what it said as the text.)
 
 So two sides agree on a batch exactly when these bytes are equal.
 """
@@ -132,17 +133,17 @@ def html5lib():
 
 # ----------------------------------------------------------------------------------------------------------------------------- our sides
 
-def kit():
-    """The kit's folder, and the folder of its tools for this machine."""
+def kit_tools():
+    """The folder of the kit's tools for this machine."""
     if not shutil.which("rt"):
         stop("rt is missing: put the Rattle kit's bin folder on the path")
-    folder = Path(subprocess.run(["rt", "doc"], stdout=subprocess.PIPE, text=True, check=True).stdout.strip()).parent.parent
-    return folder, folder / "on" / platform.machine() / "toolchain"
+    guide = Path(subprocess.run(["rt", "doc"], stdout=subprocess.PIPE, text=True, check=True).stdout.strip())
+    return guide.parent.parent / "on" / platform.machine() / "toolchain"
 
 
 def command(program):
     """What starts a built program: the kit's loader, under its emulator where it has one."""
-    _, tools = kit()
+    tools = kit_tools()
     emulator = tools / "bin" / "qemu-x86_64"
     return [*([emulator] if emulator.exists() else []), tools / "lib" / "ld-linux-x86-64.so.2", "--library-path", tools / "lib", program]
 

@@ -15,6 +15,7 @@ use html5ever::tokenizer::{Tag, Token, TokenSink, TokenSinkResult, Tokenizer, To
 use html5ever::{ns, LocalName, QualName};
 use std::cell::RefCell;
 use std::io::{self, Read, Write};
+use std::panic::catch_unwind;
 
 // Document 01's codes for html5ever's messages; each message that speaks of something else is `UNKNOWN`.
 const NO_DIGITS: u8 = 1;
@@ -180,9 +181,10 @@ fn put(out: &mut Vec<u8>, bytes: &[u8]) {
     out.extend(bytes);
 }
 
-fn answer(way: Way, kind: u8, source: &str, out: &mut Vec<u8>) {
+// The text and the codes for one record.
+fn answer(way: Way, kind: u8, source: &str) -> (Vec<u8>, Vec<u8>) {
     let escaped = |by: fn(&str) -> Vec<u8>| parts(way, source).into_iter().flat_map(by).collect::<Vec<u8>>();
-    let (text, codes) = match kind {
+    match kind {
         b'T' | b'A' => {
             let heard = if kind == b'T' { decode_text(way, source) } else { decode_attribute(way, source) };
             (heard.text.into_bytes(), heard.codes)
@@ -190,9 +192,7 @@ fn answer(way: Way, kind: u8, source: &str, out: &mut Vec<u8>) {
         b't' => (escaped(escape_text), vec![]),
         b'a' => (escaped(escape_attribute), vec![]),
         _ => panic!("no kind {kind}"),
-    };
-    put(out, &text);
-    put(out, &codes);
+    }
 }
 
 fn number(bytes: &[u8]) -> usize {
@@ -204,7 +204,10 @@ fn answer_frame(way: Way, mut frame: &[u8]) -> Vec<u8> {
     while !frame.is_empty() {
         let (head, rest) = frame.split_at(5);
         let (source, rest) = rest.split_at(number(&head[1..]));
-        answer(way, head[0], std::str::from_utf8(source).expect("the source is no UTF-8"), &mut out);
+        let source = std::str::from_utf8(source).expect("the source is no UTF-8");
+        let (text, codes) = catch_unwind(|| answer(way, head[0], source)).unwrap_or_else(|_| (b"panicked".to_vec(), vec![]));
+        put(&mut out, &text);
+        put(&mut out, &codes);
         frame = rest;
     }
     out
