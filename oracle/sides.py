@@ -157,7 +157,7 @@ def built(name):
 
 
 def exports():
-    """Ours, through the C exports."""
+    """Ours, through the C exports, which run-c proves and builds where they have changed."""
     return Framed("ours, exports", [ROOT / "run-c", HERE / "ours.c"])
 
 
