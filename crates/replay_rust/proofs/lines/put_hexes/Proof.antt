@@ -1,0 +1,47 @@
+-- The loop keeps nothing from turn to turn, and ends with the bytes.
+use Prim.Native.Nat.{_-_}
+use lib.ListN.{length}
+use borrow.Author.Needs.{needs}
+use Rattle.replay_rust.proofs.lines.put_hexes.Statement.{statement}
+use Rattle.replay_rust.proofs.lines.put_hexes.Tie as tie
+
+abbrev Inv-loop : tie.InvT-loop
+Inv-loop lines₀ at bytes end₀ i₀ lines end i = Unit {0}
+
+abbrev μ-loop : tie.MeasureT-loop
+μ-loop lines₀ at bytes end₀ i₀ lines end i = length bytes - i
+
+loop-holds : tie.Need-loop-holds Inv-loop μ-loop
+loop-holds c = search needs
+
+shared-slice-read-put-hex : tie.Need-shared-slice-read-put-hex Inv-loop μ-loop
+shared-slice-read-put-hex c = search needs
+
+put-hex-requires : tie.Need-put-hex-requires Inv-loop μ-loop
+put-hex-requires c κs = search needs
+
+add-i : tie.Need-add-i Inv-loop μ-loop
+add-i c = search needs
+
+loop-less : tie.Need-loop-less Inv-loop μ-loop
+loop-less c = search needs
+
+loop-again : tie.Need-loop-again Inv-loop μ-loop
+loop-again c = search needs
+
+returns : tie.Need-returns Inv-loop μ-loop
+returns c = search needs
+
+pub put-hexes-spec : {M : Type 1} → statement M
+put-hexes-spec =
+    tie.close
+    (tie.spec
+    Inv-loop
+    μ-loop
+    loop-holds
+    shared-slice-read-put-hex
+    put-hex-requires
+    add-i
+    loop-less
+    loop-again
+    returns)

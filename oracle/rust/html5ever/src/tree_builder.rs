@@ -1,0 +1,1 @@
+// In place of html5ever's tree builder, which nothing here needs.
