@@ -45,7 +45,7 @@ enum plankskein_answer {
     PLANKSKEIN_TOO_LONG = 3,     /* a source or an input of more than PLANKSKEIN_LONGEST bytes */
     PLANKSKEIN_WRONG_USE = 5,    /* another report length than PLANKSKEIN_REPORT, or another context or mode than 0 and 1 */
     PLANKSKEIN_CONTEXT_END = 7,  /* the context's end was met, and all before it was read; its place */
-    PLANKSKEIN_ROOM_ASKED = 9,   /* a room is too small, and nothing was written to it; text bytes: how many are asked for */
+    PLANKSKEIN_ROOM_ASKED = 9,   /* a room is too small, and nothing was written to any; text bytes: how many are asked for */
     PLANKSKEIN_NOT_WHOLE = 10    /* rows are not in threes or errors not in pairs, or their bytes are no whole numbers */
 };
 

@@ -1,7 +1,7 @@
 """A second reading of the bench program: what it must write, written down for a replay.
 
-Made from the paper alone: document 01, 'The bench program', and its settled reading that any start but `T` LF and `A` LF is a bad
-context. What is read of a source is that of replay_whole.py, which is made in the same way. Only the standard library is needed.
+Made from document 01, 'The bench program', and its settled reading that any start but `T` LF and `A` LF is a bad context, with the code
+in sight. What is read of a source is that of replay_whole.py, which was made without. Only the standard library is needed.
 
     python3 tests/replay_bench.py crates/replay_bench
 

@@ -9,7 +9,7 @@
 #define EDGE 32
 #define MOST 600000
 
-/* A number as four bytes, and as three of them. */
+/* A number as four bytes; and bytes with their length, as words, as a list, as none, and as those of a report. */
 #define NUMBER(n) (uint8_t)(n), (uint8_t)((n) >> 8), (uint8_t)((n) >> 16), (uint8_t)((n) >> 24)
 #define BYTES(s) (const uint8_t *)(s), sizeof(s) - 1
 #define LIST(...) (const uint8_t[]){__VA_ARGS__}, sizeof((const uint8_t[]){__VA_ARGS__})
@@ -161,8 +161,11 @@ static void checking(void)
     check("a, past the covered part", 0, SOURCE, LIST(ROW(9, 6, 1)), ITS_TEXT, ITS_ERRORS, 16, 0, REPORT(0, 1, 0, 0));
     check("b", 0, SOURCE, LIST(ROW(3, 2, 1), ROW(5, 4, 0)), ITS_TEXT, ITS_ERRORS, 16, 0, REPORT(0, 2, 0, 0));
     check("c", 0, SOURCE, LIST(ROW(4, 2, 1), ROW(4, 3, 0)), ITS_TEXT, ITS_ERRORS, 16, 0, REPORT(0, 3, 1, 0));
+    check("c, text runs out", 0, BYTES("ab"), LIST(ROW(2, 2, 0)), BYTES("a"), NOTHING, 16, 0, REPORT(0, 3, 0, 0));
     check("d", 0, SOURCE, LIST(ROW(4, 2, 1), ROW(4, 4, 0)), ITS_TEXT, LIST(NUMBER(2), NUMBER(256)), 16, 0, REPORT(0, 4, 0, 0));
+    check("d, errors run out", 0, SOURCE, LIST(ROW(8, 6, 1)), ITS_TEXT, NOTHING, 16, 0, REPORT(0, 4, 0, 0));
     check("e, source remains", 0, SOURCE, LIST(ROW(4, 2, 1)), ITS_TEXT, ITS_ERRORS, 16, 0, REPORT(0, 5, 1, 0));
+    check("e, text remains", 0, BYTES("a"), LIST(ROW(1, 1, 0)), BYTES("ab"), NOTHING, 16, 0, REPORT(0, 5, 1, 0));
     check("e, errors remain", 0, BYTES("a"), LIST(ROW(1, 1, 0)), BYTES("a"), ITS_ERRORS, 16, 0, REPORT(0, 5, 1, 0));
     check("no rows", 0, SOURCE, NOTHING, ITS_TEXT, ITS_ERRORS, 16, 0, REPORT(0, 5, 0, 0));
     check("an ill-formed byte", 0, BYTES("ab\xFF"), NOTHING, NOTHING, NOTHING, 16, 1, REPORT(1, 0, 0, 2));

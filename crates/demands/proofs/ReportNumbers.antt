@@ -1,13 +1,16 @@
--- Document 01, 'numbers in slices are four bytes, little-endian': four bytes say each number that the exports report, since it is below 2^32.
+-- Document 01, 'numbers in slices are four bytes, little-endian': four bytes say each number that the exports report, and each of the errors that are
+-- written, since it is below 2^32.
 use Prim.Native.Nat.{ℕ, zero, suc, _+_, _-_, _*_, _/_, _%_, _≤_, _<_}
-use mathlib.Core.Path.{_≡_, refl, _∙_, ap}
+use mathlib.Core.Path.{_≡_, refl, sym, _∙_, ap}
 use mathlib.Core.List.{List, [], _∷_}
 use mathlib.Core.Logic.{_⊎_, inl, inr}
 use native.Mathlib.Omega.{arith}
 use lib.Dec.{eqb}
-use lib.ListN.{length, length-append, length-take}
+use lib.ListN.{length, take, length-append, length-take}
+use lib.Seq.{sets, sets-eq, take-append-seam}
 use Rattle.standard.specs.declared.Context.{Context}
-use Rattle.standard.specs.Answers.{done, ill-formed, nul, too-long, room-asked, not-whole}
+use Rattle.standard.specs.Answers.{done, ill-formed, nul, too-long, context-end, room-asked, not-whole}
+use Rattle.standard.specs.Errors.{Error, numbers}
 use Rattle.standard.specs.Names.{word32, fourBytes}
 use Rattle.standard.specs.NameList.{builtin}
 use Rattle.standard.specs.Reading.{answerTo, sizeOf, Stop, stopFrom, stopOf, covered, pieces, decode}
@@ -15,6 +18,7 @@ use Rattle.standard.specs.Utf8.{readChar}
 use Rattle.standard.specs.Rooms.{fours}
 use Rattle.standard.proofs.Every.{All}
 use Rattle.standard.proofs.Choice.{if-both}
+use Rattle.standard.proofs.Puts.{laid-fours, numbers-length}
 use Rattle.standard.proofs.Stops.{stop-place}
 use Rattle.decoder.specs.declared.whole.Decoded.{Decoded}
 use Rattle.decoder.specs.Whole.{DecodesBytes}
@@ -25,12 +29,14 @@ use Rattle.checker.specs.declared.checking.Checked.{Checked}
 use Rattle.checker.specs.Transcript.{Row, rowsOf, Left, left, right, remains, Verdict, verdict, judge, verdictOn}
 use Rattle.checker.specs.Transcript.{checked, checkedOf, words, checkedBytes}
 use Rattle.checker.proofs.RowLaws.{pieces-total}
+use Rattle.reporting.proofs.Codes.{Placed, errors-placed}
 use Rattle.demands.proofs.RightRows.{Cuts, none, first}
 use Rattle.demands.proofs.Reaching.{Sized, pieces-sized, total-least}
 use Rattle.demands.proofs.Judging.{wrong-between, RowsAre, good, first-wrong, remaining, rowOf, judge-says, some-verdict}
 use Rattle.demands.proofs.Laws.{text-short, errors-few, escape-six}
 use Rattle.demands.proofs.DecodedBytes.{Did, refused, read, did}
 use Rattle.demands.proofs.Exports.{Reports, BytesCases, bytes-cases}
+use Rattle.demands.proofs.WholeAnswers as whole-answers
 use Rattle.demands.proofs.EscapeAnswers as escape-answers
 use Rattle.demands.proofs.CheckAnswers as check-answers
 
@@ -77,6 +83,40 @@ decode-small {d} {text′} {errors′} context source text errors w = by (did co
             (omega (arith, short, few), (omega (arith, b), tt)),
           ),
         )
+
+-- So are the numbers of errors whose places are in a source.
+numbers-small : (end : ℕ) (errors : List Error) → end ≤ 65536 → All (Placed end) errors → All Small (numbers errors)
+unfolding numbers
+numbers-small end [] h all = tt
+numbers-small end (e ∷ errors) h all = (omega (arith, all .0 .0), (omega (arith, h, all .0 .1), numbers-small end errors h (all .1)))
+
+-- Errors that were written are read back.
+written-read : (context : Context) (source errors : List ℕ) (count : ℕ) (errors′ : List ℕ) → length source ≤ 65536
+    → 2 * length source + 8 ≤ length errors / 4 → count ≡ length (decode builtin context (covered context source) .errors)
+    → errors′ ≡ sets errors 0 (fours (numbers (decode builtin context (covered context source) .errors)))
+    → words (take (8 * count) errors′) ≡ numbers (decode builtin context (covered context source) .errors)
+written-read context source errors count errors′ short roomy is written =
+    let part = covered context source in
+    let all = decode builtin context part .errors in
+    let near = length-take (stopOf context source .place) source in
+    let long : length (fours (numbers all)) ≡ 8 * count = omega (arith, laid-fours .long (numbers all), numbers-length all, is) in
+    let fits = sets-eq (fours (numbers all)) errors 0 (omega (arith, long, is, roomy, errors-few context source)) in
+    let front = ap (λ (k : ℕ). take k errors′) (sym long) ∙ ap (take (length (fours (numbers all)))) (written ∙ fits)
+    ∙ take-append-seam (fours (numbers all)) _ in
+    ap words front ∙ fours-say (numbers all) (numbers-small (length part) all (omega (arith, near, short)) (errors-placed builtin context part))
+
+-- With 0 and 7 the errors that `decode_bytes` wrote are read back: as many as its answer says, and they are the standard's.
+pub errors-read : {d : Decoded} {text′ errors′ : List ℕ} (context : Context) (source text errors : List ℕ)
+    → DecodesBytes context source text errors d text′ errors′ → (d .answer ≡ done) ⊎ (d .answer ≡ context-end)
+    → words (take (8 * d .errors) errors′) ≡ numbers (decode builtin context (covered context source) .errors)
+errors-read {d} {text′} {errors′} context source text errors w (inl e) =
+    let l = whole-answers.line-0 laid-fours (length errors / 4) context source text errors d text′ errors′ w in
+    let c = l .only e in
+    written-read context source errors (d .errors) errors′ (c .0) (c .1 .1) (ap (λ (x : Decoded). x .errors) (l .so c .0)) (l .so c .2)
+errors-read {d} {text′} {errors′} context source text errors w (inr e) =
+    let l = whole-answers.line-7 laid-fours (length errors / 4) context source text errors d text′ errors′ w in
+    let c = l .only e in
+    written-read context source errors (d .errors) errors′ (c .0) (c .1 .1) (ap (λ (x : Decoded). x .errors) (l .so c .0)) (l .so c .2)
 
 -- Rows that cut are no more than the pieces.
 cuts-few : {l m : Left} {rows : List Row} → Cuts l rows m → length rows ≤ length (l .pieces)
