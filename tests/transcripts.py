@@ -18,8 +18,9 @@ The first half of this file is the model, the second half the cases. A case that
 give that reason for it. Before anything is written, the model is held against the paper's sentences on transcripts and against a second
 definition of acceptance. A fixed seed draws the random cases, so two runs write the same files.
 
-The cases of `edge_groups` came later, after a checker with one letter's class wrong had answered all others as it should; the model
-stayed as it was.
+The cases of `edge_groups` came later, after a checker with one letter's class wrong had answered all others as it should. Those of many
+rows, long runs and late stops came later too: before them no transcript had 32 rows of one plain byte in a row, none had a wrong byte in
+a run of 32, and no source stopped after its 32nd byte. The model stayed as it was.
 """
 
 import random
@@ -661,6 +662,79 @@ def piece_end_calls():
             yield reason, row, Transcript(context, source, rows, text, tuple(errors)).call()
 
 
+# -------------------------------------------------------------------------------------- cases: many rows of one byte, and long runs
+
+PLAIN = b"Bytes that stand for themselves in both contexts, a tab\tand an LF\namong them; no one of them has an error > 0. "
+
+
+def plain(length):
+    """So many bytes, each of them a piece and its own text, without an error."""
+    return (PLAIN * (length // len(PLAIN) + 1))[:length]
+
+
+def as_it_stands(context, source):
+    """A row for each byte, and the source itself for its text: good where all of it is plain."""
+    return Transcript(context, source, ((1, 1, 0),) * len(source), source, ())
+
+
+def wrong_at(base, row):
+    """A row of one plain byte that is wrong: another text byte, and each of its numbers another, some of them the same in their lowest byte."""
+    way = row % 3
+    yield C, row, base.with_text(row, row + 1, bytes([base.text[row] ^ 1])).call()
+    yield A, row, base.with_row(row, source=(-1, 2**24, WRAP - 2)[way]).call()
+    yield C, row, base.with_row(row, text=(-1, 2**16, WRAP - 2)[way]).call()
+    yield D, row, base.with_row(row, errors=(1, WRAP - 1, 2**8)[way]).call()
+
+
+def many_row_calls():
+    """Rows of one plain byte each, in numbers around 32 and 64: good, one of them wrong, or something short or left at their end."""
+    for number, length in enumerate((31, 32, 33, 64, 65)):
+        yield ACCEPTED, 0, as_it_stands(CONTEXTS[number % 2], plain(length)).call()
+    for row in (0, 31, 32):
+        yield from wrong_at(as_it_stands(CONTEXTS[row % 2], plain(33)), row)
+    for row in (32, 63, 64):
+        yield from list(wrong_at(as_it_stands(CONTEXTS[row % 2], plain(65)), row))[row % 2:row % 2 + 3:2]
+    base = as_it_stands(TEXT, plain(32))
+    yield ACCEPTED, 0, base._replace(source=base.source + b"<x").call()
+    yield A, 31, base._replace(source=plain(31) + b"<x").call()
+    yield A, 32, base._replace(rows=base.rows + ((1, 1, 0),), text=plain(33)).call()
+    yield C, 31, base._replace(text=plain(31)).call()
+    yield E, 32, base._replace(text=plain(33)).call()
+    yield E, 32, base._replace(source=plain(33)).call()
+    yield E, 32, base._replace(errors=((5, 31),)).call()
+
+
+def among_plain_calls():
+    """Among rows of one plain byte each a piece that is not plain, right and wrong."""
+    for number, (piece, at) in enumerate(((b"\x01", 31), (b"\r", 31), (b"& ", 31), (b"&#", 30), (b"\x7F\x0C", 0), (b"&lt;", 0))):
+        base = in_piece_rows(CONTEXTS[number % 2], plain(at) + piece + plain(64 if piece == b"&lt;" else 33 - at - len(piece)))
+        yield ACCEPTED, 0, base.call()
+        if piece == b"&lt;":
+            yield C, 63, base.with_text(63, 64, b"~").call()
+    for number, (piece, reason) in enumerate(((b"\x01", D), (b"&#", D), (b"\r ", C), (b"&lt;", B), (b"\r\n", B), (b"\xC3\xA9", B))):
+        yield reason, 28, as_it_stands(CONTEXTS[number % 2], plain(28) + piece + plain(4 - len(piece))).call()
+
+
+def long_run_calls():
+    """One row with long runs of plain bytes: a text byte is another, also where a later reason comes first."""
+    for number, before in enumerate((b"", b"&lt;")):
+        base = in_one_row(CONTEXTS[number], before + plain(65) + b"\x01")
+        yield ACCEPTED, 0, base.call()
+        for at in (0, 31, 32, 63, 64):
+            yield C, 0, base.with_text(at + number, at + number + 1, b"~").call()
+        yield D, 0, base.with_errors(0, 1, (5, 64)).call()
+    ending = in_one_row(TEXT, plain(40) + b"\xC3\xA9")
+    yield B, 0, ending.with_row(0, source=-1).with_text(0, 1, b"~").call()
+
+
+def late_stop_calls():
+    """After as many plain bytes as are passed at once, and one more or fewer: a fault, and the context's end."""
+    for number, (length, fault) in enumerate(product((63, 64, 128), (b"\0", b"\xFF", b"\xE2\x82"))):
+        yield as_it_stands(CONTEXTS[number % 2], plain(length) + fault)._replace(rows=(), text=b"").call()
+    for context, end, length in ((TEXT, b"<", 63), (ATTRIBUTE, b'"', 64), (TEXT, b"<", 65), (ATTRIBUTE, b'"', 128)):
+        yield in_one_row(context, plain(length) + end + b"\0").call()
+
+
 # ------------------------------------------------------------------------------------------------------------- cases: other answers
 
 def refusal_calls():
@@ -815,7 +889,8 @@ def random_calls(count, seed):
 
 def reasoned_calls():
     """The calls that were made for one reason, with it and its row."""
-    for group in (good_calls, long_calls, row_damages, end_damages, empty_calls, pair_calls, within_row_calls, piece_end_calls):
+    for group in (good_calls, long_calls, row_damages, end_damages, empty_calls, pair_calls, within_row_calls, piece_end_calls,
+                  many_row_calls, among_plain_calls, long_run_calls):
         for reason, row, call in group():
             assert call.checked == Checked(ENDED, reason, row), (group.__name__, reason, row, call, call.checked)
             yield call
@@ -826,6 +901,7 @@ def all_calls():
     yield from reasoned_calls()
     yield from refusal_calls()
     yield from fault_calls()
+    yield from late_stop_calls()
     yield from random_calls(1450, seed=13)
 
 

@@ -27,7 +27,7 @@ Quiet end s at n = (i : ℕ) → i < n → quiet end (getD s (at + i) 0) ≡ tru
 abbrev pub lone : ℕ → Bool
 lone b = ltb b 0x80 && not (eqb b (code "\r")) && not (eqb b (code "&"))
 
--- A byte that is a piece and its own text, without an error, printable ASCII but `&`, LF or tab, and is the byte c too.
+-- A byte that is a piece and its own text, without an error, and is the byte c too: LF, tab, or printable ASCII but `&`.
 abbrev pub alike : ℕ → ℕ → Bool
 alike b c = (between 0x20 0x7E b && not (eqb b (code "&")) || eqb b 0xA || eqb b 0x9) && eqb b c
 

@@ -148,7 +148,7 @@ fn lone(b: u32) -> bool
     (b < 0x80) & (b != 0xD) & (b != 0x26)
 }
 
-// Whether a row of n source bytes, m text bytes and k errors is one such character that the text has too, and its error is the next.
+// Whether a row of n source bytes, m text bytes and k errors is one lone character that the text has too, and its error, if any, is the next.
 fn byte_row(
     s: &[u8],
     at: usize,

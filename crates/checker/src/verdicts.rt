@@ -42,7 +42,7 @@ fn last_verdict(
     Verdict { reason: 0, row: 0 }
 }
 
-// How many rows are judged singly before blocks are looked for again, after one more was: a block that is not plain is then looked at once.
+// How many rows are still judged singly before the next look for blocks, after one more was: so no row is looked at in two blocks.
 fn still_singly(singly: u8) -> u8 {
     if singly == 0 {
         return 31;

@@ -1,5 +1,5 @@
 -- Laws of the definition of the verdict: what it finds of a row, and of rows, is what the relations of RightRows say.
-use Prim.Native.Nat.{ℕ, suc, _+_, _*_, _≤_, _<_}
+use Prim.Native.Nat.{ℕ, suc, _+_, _*_, _%_, _≤_, _<_}
 use mathlib.Core.Path.{_≡_, refl, sym, _∙_, ap, subst}
 use mathlib.Core.List.{List, [], _∷_, _++_, append-nil}
 use mathlib.Core.Bool.{Bool, true, false, not, _&&_}
@@ -15,12 +15,13 @@ use Rattle.standard.specs.Names.{stands}
 use Rattle.standard.specs.Pieces.{Piece}
 use Rattle.standard.specs.Reading.{Reading, _⊕_, joined}
 use Rattle.standard.proofs.Choice.{no-way, test?, below?, and-true}
+use Rattle.standard.proofs.Every.{All}
 use Rattle.standard.proofs.Puts.{numbers-append, numbers-length}
-use Rattle.checker.specs.Transcript.{Row, row, Left, left, total, reached, wrong, after, spent, verdict, judge}
+use Rattle.checker.specs.Transcript.{Row, row, rowsOf, Left, left, total, reached, wrong, after, spent, verdict, judge}
 use Rattle.checker.specs.Transcript.{right, no-source, no-piece-end, text-differs, errors-differ, remains}
 use Rattle.checker.proofs.Meetings.{stands-front, front-stands}
 use Rattle.demands.proofs.RightRows.{PieceEnd, TextComes, ErrorsCome, Right, Cuts, none, first, Spent, Good, Remains, FirstWrong, column}
-use Rattle.demands.proofs.RightRows.{Wrong, no-bytes, past, within, no-text, no-errors}
+use Rattle.demands.proofs.RightRows.{Wrong, no-bytes, past, within, no-text, no-errors, together, rowsFor, inThrees}
 use Rattle.demands.proofs.Reaching.{Sized, sized-parts, total-append, total-least, reached-front, reached-cut, reached-some, joined-append}
 
 -- A word stands before all that comes after it.
@@ -289,19 +290,46 @@ cuts-reads (first {l} {m} x c) s =
       rw (x .errors-of .comes, w .1) (sym (ap (λ (r : Reading). numbers (r .errors)) all ∙ numbers-append (here .errors) (later .errors))),
     )
 
--- Pieces as one row, with their text and their errors, are a good transcript.
-pub one-row : (at : ℕ) (ps : List Piece) → 0 < length ps
-    → let given = joined at ps in
-    Good (left at ps (given .text) (numbers (given .errors))) (row (total ps) (length (given .text)) (length (given .errors)) ∷ [])
-one-row at ps some = record { end = left (at + total ps) [] [] []; cuts = first whole none; spent = (refl, refl, refl) }
+-- Groups of pieces as rows, with the text and the errors of all, are a good transcript.
+pub groups-good : (at : ℕ) (groups : List (List Piece)) → All (λ (group : List Piece). 0 < length group) groups
+    → let given = joined at (together groups) in
+    Good (left at (together groups) (given .text) (numbers (given .errors))) (rowsFor at groups)
+unfolding joined numbers
+groups-good at [] some = record { end = left at [] [] []; cuts = none; spent = (refl, refl, refl) }
+groups-good at (group ∷ groups) some =
+    let good-rest = groups-good (at + total group) groups (some .1) in
+    record { end = good-rest .end; cuts = first whole (good-rest .cuts); spent = good-rest .spent }
   where
-    whole : let given = joined at ps in
-        Right (left at ps (given .text) (numbers (given .errors))) (row (total ps) (length (given .text)) (length (given .errors)))
-        (left (at + total ps) [] [] [])
+    here : Reading
+    here = joined at group
+
+    later : Reading
+    later = joined (at + total group) (together groups)
+
+    all : joined at (group ++ together groups) ≡ here ⊕ later
+    all = joined-append at group (together groups)
+
+    whole : let given = joined at (group ++ together groups) in
+        Right (left at (group ++ together groups) (given .text) (numbers (given .errors)))
+        (row (total group) (length (here .text)) (length (here .errors)))
+        (left (at + total group) (together groups) (later .text) (numbers (later .errors)))
     whole = record {
-      next = ps;
-      ending = record { some = some; cut = sym (append-nil ps); bytes = refl };
-      texts = record { count = refl; comes = sym (append-nil (joined at ps .text)) };
-      errors-of = record { count = refl; comes = sym (append-nil (numbers (joined at ps .errors))) };
+      next = group;
+      ending = record { some = some .0; cut = refl; bytes = refl };
+      texts = record { count = refl; comes = ap (λ (r : Reading). r .text) all };
+      errors-of = record {
+        count = refl;
+        comes = ap (λ (r : Reading). numbers (r .errors)) all ∙ numbers-append (here .errors) (later .errors);
+      };
       on = refl;
     }
+
+-- Rows as numbers are read back.
+pub threes-read : (rows : List Row) → rowsOf (inThrees rows) ≡ rows
+unfolding rowsOf
+threes-read [] = refl
+threes-read (r ∷ rows) = ap (λ (l : List Row). r ∷ l) (threes-read rows)
+
+pub threes-length : (rows : List Row) → length (inThrees rows) % 3 ≡ 0
+threes-length [] = refl
+threes-length (r ∷ rows) = omega (arith, threes-length rows)

@@ -7,7 +7,7 @@ use lib.ListN.{length}
 use Rattle.standard.specs.Errors.{numbers}
 use Rattle.standard.specs.Pieces.{Piece}
 use Rattle.standard.specs.Reading.{joined}
-use Rattle.checker.specs.Transcript.{Row, Left, total, no-source, no-piece-end, text-differs, errors-differ}
+use Rattle.checker.specs.Transcript.{Row, row, Left, total, no-source, no-piece-end, text-differs, errors-differ}
 
 -- A row ends at a piece end: it has the bytes of the next pieces, one or more, and the rest comes after them.
 pub record PieceEnd (l : Left) (r : Row) (next rest : List Piece) : Type 0 where
@@ -73,6 +73,22 @@ pub record FirstWrong (l : Left) (rows : List Row) (reason : ℕ) : Type 0 where
   pub here : Left
   pub cuts : Cuts l before here
   pub wrong : Wrong here bad reason
+
+-- Groups of pieces, one after the other.
+abbrev pub together : List (List Piece) → List Piece
+together [] = []
+together (group ∷ groups) = group ++ together groups
+
+-- A row for each group, the first of them at an offset: its bytes, and how much text and how many errors the standard gives it.
+abbrev pub rowsFor : ℕ → List (List Piece) → List Row
+rowsFor at [] = []
+rowsFor at (group ∷ groups) =
+    row (total group) (length (joined at group .text)) (length (joined at group .errors)) ∷ rowsFor (at + total group) groups
+
+-- Rows as numbers, three each.
+abbrev pub inThrees : List Row → List ℕ
+inThrees [] = []
+inThrees (r ∷ rows) = r .source ∷ r .text ∷ r .errors ∷ inThrees rows
 
 -- The sum of a column.
 abbrev pub column : (Row → ℕ) → List Row → ℕ

@@ -2,7 +2,7 @@
 -- reason, or the row count where only something remains. RightRows says what is good, right and wrong. c is whatever meets the contract of `check`.
 use Prim.Native.Nat.{ℕ, _+_, _*_, _%_, _≤_, _<_}
 use mathlib.Core.Path.{_≡_, refl, sym, _∙_, ap, subst}
-use mathlib.Core.List.{List, [], _∷_}
+use mathlib.Core.List.{List, [], _∷_, append-nil}
 use mathlib.Core.Bool.{true}
 use mathlib.Core.Logic.{_↔_, inl, inr}
 use native.Mathlib.Omega.{arith}
@@ -14,8 +14,10 @@ use Rattle.standard.specs.Notation.{if_then_else_}
 use Rattle.standard.specs.Answers.{done, context-end}
 use Rattle.standard.specs.Errors.{numbers}
 use Rattle.standard.specs.NameList.{builtin}
+use Rattle.standard.specs.Pieces.{Piece}
 use Rattle.standard.specs.Reading.{stopOf, covered, readable, pieces, Reading, decode}
 use Rattle.standard.proofs.Choice.{no-way}
+use Rattle.standard.proofs.Every.{All}
 use Rattle.standard.proofs.Puts.{numbers-length, laid-plainly}
 use Rattle.standard.proofs.Stops.{stop-place, stop-done, OneOf, stops-with}
 use Rattle.checker.specs.declared.checking.Checked.{Checked}
@@ -25,10 +27,10 @@ use Rattle.decoder.specs.declared.whole.Decoded.{Decoded}
 use Rattle.decoder.specs.Whole.{decoded, Decodes}
 use Rattle.demands.proofs.Lines.{Line, LineOf}
 use Rattle.demands.proofs.Laws.{rooms-suffice}
-use Rattle.demands.proofs.RightRows.{none, Good, Remains, FirstWrong, column}
+use Rattle.demands.proofs.RightRows.{none, Good, Remains, FirstWrong, together, rowsFor, inThrees, column}
 use Rattle.demands.proofs.Reaching.{Sized, pieces-sized, pieces-some}
 use Rattle.demands.proofs.Judging.{RowsAre, good, first-wrong, remaining, rowOf}
-use Rattle.demands.proofs.Judging.{wrong-between, judge-says, some-verdict, cuts-columns, cuts-reads, one-row}
+use Rattle.demands.proofs.Judging.{wrong-between, judge-says, some-verdict, cuts-columns, cuts-reads, groups-good, threes-read, threes-length}
 use Rattle.demands.proofs.CheckAnswers as check-answers
 use Rattle.demands.proofs.WholeAnswers as whole-answers
 
@@ -134,6 +136,17 @@ module _ (context : Context) (source rows text errors : List ℕ) (c : Checked) 
     pub reads-so : let given = decode builtin context (covered context source) in (text ≡ given .text) × (errors ≡ numbers (given .errors))
     reads-so = let g = accepts-exactly .0 accepted .1 in cuts-reads (g .cuts) (g .spent)
 
+-- Any cutting passes: groups of one or more pieces, which are all pieces of the covered part together, a row for each, with the standard's text and
+-- errors.
+pub any-cutting-passes : (context : Context) (source : List ℕ) → length source ≤ 65536 → readable context source ≡ true
+    → (groups : List (List Piece)) → All (λ (group : List Piece). 0 < length group) groups
+    → together groups ≡ pieces builtin context (covered context source)
+    → let given = decode builtin context (covered context source) in
+    (c : Checked) → c ≡ checkedOf builtin context source (inThrees (rowsFor 0 groups)) (given .text) (numbers (given .errors)) → Accepted c
+any-cutting-passes context source short reads groups some all c is =
+    accepts-exactly context source _ _ _ c is short reads .1
+    (threes-length (rowsFor 0 groups), rw (threes-read (rowsFor 0 groups)) (rw all at (groups-good 0 groups some)))
+
 -- An answer 0 or 7 of `decode_whole` as a row: its place, if it names one, and else the source's length; its text bytes; its errors.
 abbrev pub asRow : List ℕ → Decoded → List ℕ
 asRow source d = (if eqb (d .answer) context-end then d .place else length source) ∷ d .text ∷ d .errors ∷ []
@@ -166,11 +179,11 @@ module _ (context : Context) (source : List ℕ) (short : length source ≤ 6553
   one-row-passes : (n : ℕ) → n ≡ length (covered context source) → (c : Checked)
       → c ≡ checkedOf builtin context source (n ∷ length (whole .text) ∷ length (whole .errors) ∷ []) (whole .text) (numbers (whole .errors))
       → Accepted c
-  unfolding rowsOf
   one-row-passes n e c is =
-      let g = one-row 0 (pieces builtin context (covered context source)) (pieces-some builtin context (covered context source) some) in
-      let bytes = pieces-total builtin context (covered context source) ∙ sym e in
-      accepts-exactly context source _ _ _ c is short reads .1 (refl, rw bytes at g)
+      let ps = pieces builtin context (covered context source) in
+      let bytes : n ≡ total ps = e ∙ sym (pieces-total builtin context (covered context source)) in
+      any-cutting-passes context source short reads (ps ∷ []) (pieces-some builtin context (covered context source) some, tt) (append-nil ps) c
+      (rw bytes at is)
 
   -- The place where a source stops is how much of it is covered.
   covered-length : length (covered context source) ≡ stopOf context source .place
