@@ -10,7 +10,7 @@ use Rattle.standard.specs.declared.Context.{Context}
 use Rattle.standard.specs.Answers.{done, ill-formed, nul, too-long, room-asked, not-whole}
 use Rattle.standard.specs.Names.{word32, fourBytes}
 use Rattle.standard.specs.NameList.{builtin}
-use Rattle.standard.specs.Reading.{answerTo, sizeOf, Stop, stopFrom, stopOf, covered, pieces, decode}
+use Rattle.standard.specs.Reading.{answerTo, sizeOf, Stop, stopFrom, stopOf, covered, pieces}
 use Rattle.standard.specs.Utf8.{readChar}
 use Rattle.standard.specs.Rooms.{fours}
 use Rattle.standard.proofs.Every.{All}
