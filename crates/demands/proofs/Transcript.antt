@@ -8,7 +8,7 @@ use mathlib.Core.Logic.{_↔_, inl, inr}
 use native.Mathlib.Omega.{arith}
 use lib.Dec.{eqb}
 use lib.ListN.{length, take, drop, length-take}
-use lib.Seq.{sets, sets-eq, take-append-seam}
+use lib.Seq.{sets, take-append-seam}
 use Rattle.standard.specs.declared.Context.{Context}
 use Rattle.standard.specs.Notation.{if_then_else_}
 use Rattle.standard.specs.Answers.{done, context-end}
@@ -23,6 +23,7 @@ use Rattle.checker.specs.Transcript.{rowsOf, Left, left, total, right, remains,
 use Rattle.checker.proofs.RowLaws.{pieces-total}
 use Rattle.decoder.specs.declared.whole.Decoded.{Decoded}
 use Rattle.decoder.specs.Whole.{decoded, Decodes}
+use Rattle.demands.proofs.Fits.{room-after}
 use Rattle.demands.proofs.Lines.{Line, LineOf}
 use Rattle.demands.proofs.Laws.{rooms-suffice}
 use Rattle.demands.proofs.RightRows.{none, Good, Remains, FirstWrong, column}
@@ -140,7 +141,7 @@ asRow source d = (if eqb (d .answer) context-end then d .place else length sourc
 
 -- What was written at the start of a room is what is taken from there.
 front-written : (room t : List ℕ) (n : ℕ) → n ≡ length t → length t ≤ length room → take n (sets room 0 t) ≡ t
-front-written room t n e fits = rw (e, sets-eq t room 0 (omega arith)) (take-append-seam t (drop (0 + length t) room))
+front-written room t n e fits = rw (e, room-after room t fits) (take-append-seam t (drop (length t) room))
 
 module _ (context : Context) (source : List ℕ) (short : length source ≤ 65536) (reads : readable context source ≡ true)
     (some : 0 < length (covered context source)) where
