@@ -14,7 +14,7 @@ use Rattle.standard.specs.Notation.{if_then_else_}
 use Rattle.standard.specs.Answers.{done, context-end}
 use Rattle.standard.specs.Errors.{numbers}
 use Rattle.standard.specs.NameList.{builtin}
-use Rattle.standard.specs.Reading.{stopOf, covered, readable, pieces, Reading, decode}
+use Rattle.standard.specs.Reading.{stopOf, covered, readable, piecesFrom, pieces, Reading, decode}
 use Rattle.standard.proofs.Choice.{no-way}
 use Rattle.standard.proofs.Puts.{numbers-length, laid-plainly}
 use Rattle.standard.proofs.Stops.{stop-place, stop-done, OneOf, stops-with}
@@ -134,6 +134,15 @@ module _ (context : Context) (source rows text errors : List ℕ) (c : Checked) 
     -- Text and errors are then the standard's for the covered source: no other text and no other errors are ever accepted for it.
     pub reads-so : let given = decode builtin context (covered context source) in (text ≡ given .text) × (errors ≡ numbers (given .errors))
     reads-so = let g = accepts-exactly .0 accepted .1 in cuts-reads (g .cuts) (g .spent)
+
+-- Where nothing is covered the empty transcript passes: no rows, no text and no errors.
+pub empty-passes : (context : Context) (source : List ℕ) → length source ≤ 65536 → readable context source ≡ true → covered context source ≡ []
+    → (c : Checked) → c ≡ checkedOf builtin context source [] [] [] → Accepted c
+unfolding rowsOf piecesFrom
+empty-passes context source short reads empty c is = accepts-exactly context source [] [] [] c is short reads .1 (
+  refl,
+  record { end = start context source [] []; cuts = none; spent = (rw empty, refl, refl) },
+)
 
 -- An answer 0 or 7 of `decode_whole` as a row: its place, if it names one, and else the source's length; its text bytes; its errors.
 abbrev pub asRow : List ℕ → Decoded → List ℕ
