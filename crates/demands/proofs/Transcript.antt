@@ -8,14 +8,14 @@ use mathlib.Core.Logic.{_↔_, inl, inr}
 use native.Mathlib.Omega.{arith}
 use lib.Dec.{eqb}
 use lib.ListN.{length, take, drop, length-take}
-use lib.Seq.{sets, sets-eq, take-append-seam}
+use lib.Seq.{sets, take-append-seam}
 use Rattle.standard.specs.declared.Context.{Context}
 use Rattle.standard.specs.Notation.{if_then_else_}
 use Rattle.standard.specs.Answers.{done, context-end}
 use Rattle.standard.specs.Errors.{numbers}
 use Rattle.standard.specs.NameList.{builtin}
 use Rattle.standard.specs.Pieces.{Piece}
-use Rattle.standard.specs.Reading.{stopOf, covered, readable, pieces, Reading, decode}
+use Rattle.standard.specs.Reading.{stopOf, covered, readable, piecesFrom, pieces, Reading, decode}
 use Rattle.standard.proofs.Choice.{no-way}
 use Rattle.standard.proofs.Every.{All}
 use Rattle.standard.proofs.Puts.{numbers-length, laid-plainly}
@@ -25,6 +25,7 @@ use Rattle.checker.specs.Transcript.{rowsOf, Left, left, total, right, remains,
 use Rattle.checker.proofs.RowLaws.{pieces-total}
 use Rattle.decoder.specs.declared.whole.Decoded.{Decoded}
 use Rattle.decoder.specs.Whole.{decoded, Decodes}
+use Rattle.demands.proofs.Fits.{room-after}
 use Rattle.demands.proofs.Lines.{Line, LineOf}
 use Rattle.demands.proofs.Laws.{rooms-suffice}
 use Rattle.demands.proofs.RightRows.{none, Good, Remains, FirstWrong, together, rowsFor, inThrees, column}
@@ -147,13 +148,22 @@ any-cutting-passes context source short reads groups some all c is =
     accepts-exactly context source _ _ _ c is short reads .1
     (threes-length (rowsFor 0 groups), rw (threes-read (rowsFor 0 groups)) (rw all at (groups-good 0 groups some)))
 
+-- Where nothing is covered the empty transcript passes: no rows, no text and no errors.
+pub empty-passes : (context : Context) (source : List ℕ) → length source ≤ 65536 → readable context source ≡ true → covered context source ≡ []
+    → (c : Checked) → c ≡ checkedOf builtin context source [] [] [] → Accepted c
+unfolding rowsOf piecesFrom
+empty-passes context source short reads empty c is = accepts-exactly context source [] [] [] c is short reads .1 (
+  refl,
+  record { end = start context source [] []; cuts = none; spent = (rw empty, refl, refl) },
+)
+
 -- An answer 0 or 7 of `decode_whole` as a row: its place, if it names one, and else the source's length; its text bytes; its errors.
 abbrev pub asRow : List ℕ → Decoded → List ℕ
 asRow source d = (if eqb (d .answer) context-end then d .place else length source) ∷ d .text ∷ d .errors ∷ []
 
 -- What was written at the start of a room is what is taken from there.
 front-written : (room t : List ℕ) (n : ℕ) → n ≡ length t → length t ≤ length room → take n (sets room 0 t) ≡ t
-front-written room t n e fits = rw (e, sets-eq t room 0 (omega arith)) (take-append-seam t (drop (0 + length t) room))
+front-written room t n e fits = rw (e, room-after room t fits) (take-append-seam t (drop (length t) room))
 
 module _ (context : Context) (source : List ℕ) (short : length source ≤ 65536) (reads : readable context source ≡ true)
     (some : 0 < length (covered context source)) where

@@ -62,7 +62,7 @@ below-at (suc k) p n e h = go (eqb n k) refl (below-at k p n (and-eq-true-iff (p
     go true f ih = ap p (eqb-true n k f) ∙ and-eq-true-iff (p k) (below k p) .0 e .0
     go false f ih = let d = eqb-false n k f in ih (omega arith)
 
--- Below 100 the lists are compared by computing, from there on the lists of controls are past.
+-- Below 100 hex the lists are compared by computing, from there on the lists of controls are past.
 codes-low : below 0x100 (λ c. eqb (characterCode c) (if withError c then 5 else 0)) ≡ true
 unfolding computing below
 codes-low = refl

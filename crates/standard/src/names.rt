@@ -2,7 +2,7 @@
 // characters, each four bytes with the lowest first, the second 0 where there is none.
 ghost use mathlib.Core.Path.{_≡_};
 ghost use Prim.Native.Nat.{_≤_, _<_, _+_};
-ghost use lib.ListN.{length, take, drop};
+ghost use lib.ListN.{length};
 ghost use Rattle.standard.specs.Names.{charRef, stands, longer, longest, begins, word32, recordAt, records};
 
 // The characters that a reference stands for: the first num_chars of chars.
