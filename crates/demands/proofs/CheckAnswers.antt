@@ -4,7 +4,8 @@ use Prim.Native.Nat.{ℕ, _%_, _≤_, _<_}
 use mathlib.Core.Path.{_≡_, refl, sym, _∙_, ap, subst}
 use mathlib.Core.List.{List}
 use mathlib.Core.Bool.{true, false, not, _||_, _&&_}
-use mathlib.Core.Logic.{_⊎_, inl, inr, ⊎-elim}
+use mathlib.Core.Logic.{_⊎_, inl, inr, ⊎-elim, ⊎-map}
+use native.Mathlib.Omega.{arith}
 use lib.Dec.{eqb}
 use lib.ListN.{length}
 use borrow.Author.Tests.{le-ltb, eqb-true, eqb-false, eq-eqb}
@@ -167,7 +168,7 @@ module _ (context : Context) (source rows text errors : List ℕ) where
         one (nul-character h e) = inr (inr (inr (inl refl)))
         one (reads h e) = inr (inr (inr (inr refl)))
 
--- The same for `check_bytes`, whose rows and errors are bytes, four a number: 3; 10 also where these are no whole numbers; else what `check` gives.
+-- The same for `check_bytes`, whose rows and errors are bytes, four a number: 10 also where these are no whole numbers.
 module _ (context : Context) (source rows text errors : List ℕ) (c : Checked) (is : c ≡ checkedBytes builtin context source rows text errors) where
   -- The bytes of both are whole numbers.
   abbrev pub Fours : Type 0
@@ -185,3 +186,84 @@ module _ (context : Context) (source rows text errors : List ℕ) (c : Checked) 
 
   pub bytes-as-words : length source ≤ 65536 → Fours → c ≡ checkedOf builtin context source (words rows) text (words errors)
   bytes-as-words short whole = is ∙ sym (bytes-checked context source rows text errors short (whole .0) (whole .1))
+
+  -- The answer by which of the three it is.
+  by-bytes : (A : Type 0) → (65536 < length source → A) → (length source ≤ 65536 → (Fours → ⊥) → A) → (length source ≤ 65536 → Fours → A) → A
+  by-bytes A over odd whole =
+      ⊎-elim over
+      (λ s. ⊎-elim
+      (λ a. ⊎-elim (λ b. whole s (a, b)) (λ b. odd s (λ w. b (w .1))) (⊎-map (eqb-true _ 0) (eqb-false _ 0) (test? (eqb (length errors % 4) 0))))
+      (λ a. odd s (λ w. a (w .0))) (⊎-map (eqb-true _ 0) (eqb-false _ 0) (test? (eqb (length rows % 4) 0)))) (below? 65536 (length source))
+
+  -- Rows and errors are whole numbers, in threes and in pairs.
+  abbrev pub WholeBytes : Type 0
+  WholeBytes = Fours × Whole context source (words rows) text (words errors)
+
+  answers : {a : ℕ} (v : Verdict) (place : ℕ) → c ≡ checked a v place → c .answer ≡ a
+  answers v place e = ap (λ (x : Checked). x .answer) e
+
+  pub bytes-line-3 : Line (c .answer) too-long (65536 < length source) (c ≡ checked too-long (verdict right 0) 0)
+  bytes-line-3 =
+      by-bytes _ (λ h. record { only = λ e. h; given = λ w. answers _ _ (bytes-3 h); so = bytes-3 })
+      (λ s o. record {
+        only = λ e. absurd (omega (arith, answers _ _ (bytes-10 s o), e));
+        given = λ w. absurd (omega (arith, s, w));
+        so = bytes-3;
+      })
+      (λ s f. line-3 context source (words rows) text (words errors) c (bytes-as-words s f))
+
+  pub bytes-line-10 : Line (c .answer) not-whole ((length source ≤ 65536) × (WholeBytes → ⊥)) (c ≡ checked not-whole (verdict right 0) 0)
+  bytes-line-10 =
+      by-bytes _
+      (λ h. record {
+        only = λ e. absurd (omega (arith, answers _ _ (bytes-3 h), e));
+        given = λ w. absurd (omega (arith, h, w .0));
+        so = λ w. absurd (omega (arith, h, w .0));
+      })
+      (λ s o. record { only = λ e. (s, λ w. o (w .0)); given = λ w. answers _ _ (bytes-10 s o); so = λ w. bytes-10 s o })
+      (λ s f. let l = line-10 context source (words rows) text (words errors) c (bytes-as-words s f) in record {
+        only = λ e. (s, λ w. l .only e .1 (w .1));
+        given = λ w. l .given (s, λ x. w .1 (f, x));
+        so = λ w. l .so (s, λ x. w .1 (f, x));
+      })
+
+  -- A line of a source that is read.
+  looked-line : (a : ℕ) (p result : Type 0) → (a ≡ too-long → ⊥) → (a ≡ not-whole → ⊥)
+      → (c ≡ checkedOf builtin context source (words rows) text (words errors)
+      → Line (c .answer) a (Looked context source (words rows) text (words errors) × p) result)
+      → Line (c .answer) a (((length source ≤ 65536) × WholeBytes) × p) result
+  looked-line a p result x y of-words =
+      by-bytes _
+      (λ h. record {
+        only = λ e. absurd (x (sym e ∙ answers _ _ (bytes-3 h)));
+        given = λ w. absurd (omega (arith, h, w .0 .0));
+        so = λ w. absurd (omega (arith, h, w .0 .0));
+      })
+      (λ s o. record {
+        only = λ e. absurd (y (sym e ∙ answers _ _ (bytes-10 s o)));
+        given = λ w. absurd (o (w .0 .1 .0));
+        so = λ w. absurd (o (w .0 .1 .0));
+      })
+      (λ s f. let l = of-words (bytes-as-words s f) in record {
+        only = λ e. ((s, (f, l .only e .0 .1)), l .only e .1);
+        given = λ w. l .given ((s, w .0 .1 .1), w .1);
+        so = λ w. l .so ((s, w .0 .1 .1), w .1);
+      })
+
+  pub bytes-line-1 : let stop = stopOf context source in
+      Line (c .answer) ill-formed (((length source ≤ 65536) × WholeBytes) × (stop .answer ≡ ill-formed))
+      (c ≡ checked ill-formed (verdict right 0) (stop .place))
+  bytes-line-1 = looked-line ill-formed _ _ (λ e. omega arith) (λ e. omega arith) (line-1 context source (words rows) text (words errors) c)
+
+  pub bytes-line-2 : let stop = stopOf context source in
+      Line (c .answer) nul (((length source ≤ 65536) × WholeBytes) × (stop .answer ≡ nul)) (c ≡ checked nul (verdict right 0) (stop .place))
+  bytes-line-2 = looked-line nul _ _ (λ e. omega arith) (λ e. omega arith) (line-2 context source (words rows) text (words errors) c)
+
+  pub bytes-line-0 : Line (c .answer) done (((length source ≤ 65536) × WholeBytes) × (readable context source ≡ true))
+      (c ≡ checked done (verdictOn builtin context (covered context source) (words rows) text (words errors)) 0)
+  bytes-line-0 = looked-line done _ _ (λ e. omega arith) (λ e. omega arith) (line-0 context source (words rows) text (words errors) c)
+
+  pub bytes-no-other : Answer (c .answer)
+  bytes-no-other =
+      by-bytes _ (λ h. inl (answers _ _ (bytes-3 h))) (λ s o. inr (inl (answers _ _ (bytes-10 s o))))
+      (λ s f. no-other context source (words rows) text (words errors) c (bytes-as-words s f))

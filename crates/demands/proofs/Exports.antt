@@ -203,15 +203,7 @@ module _ (number : ℕ) (source rows text errors report : List ℕ) (r : ℕ) (r
 
   -- An answer of the table, and no 5.
   check-answer : (context : Context) → check-answers.Answer (answer context .answer)
-  check-answer context = go (bytes-cases context source rows text errors)
-    where
-      go : BytesCases context source rows text errors → check-answers.Answer (answer context .answer)
-      go (inl e) = rw e (inl refl)
-      go (inr (inl e)) = rw e (inr (inl refl))
-      go (inr (inr e)) =
-          rw e
-          (check-answers.no-other context source (words rows) text (words errors)
-          (checkedOf builtin context source (words rows) text (words errors)) refl)
+  check-answer context = check-answers.bytes-no-other context source rows text errors (answer context) refl
 
   check-never : (context : Context) → checks source rows text errors context .returned ≡ no-room → ⊥
   unfolding checks

@@ -23,3 +23,4 @@ pub mod DecodedBytes
 pub mod Exports
 pub mod ReportNumbers
 pub mod ExportEdges
+pub mod Laboratory

@@ -91,7 +91,7 @@ numbers-small end [] h all = tt
 numbers-small end (e ∷ errors) h all = (omega (arith, all .0 .0), (omega (arith, h, all .0 .1), numbers-small end errors h (all .1)))
 
 -- Errors that were written are read back.
-written-read : (context : Context) (source errors : List ℕ) (count : ℕ) (errors′ : List ℕ) → length source ≤ 65536
+pub written-read : (context : Context) (source errors : List ℕ) (count : ℕ) (errors′ : List ℕ) → length source ≤ 65536
     → 2 * length source + 8 ≤ length errors / 4 → count ≡ length (decode builtin context (covered context source) .errors)
     → errors′ ≡ sets errors 0 (fours (numbers (decode builtin context (covered context source) .errors)))
     → words (take (8 * count) errors′) ≡ numbers (decode builtin context (covered context source) .errors)

@@ -162,7 +162,7 @@ abbrev pub asRow : List ℕ → Decoded → List ℕ
 asRow source d = (if eqb (d .answer) context-end then d .place else length source) ∷ d .text ∷ d .errors ∷ []
 
 -- What was written at the start of a room is what is taken from there.
-front-written : (room t : List ℕ) (n : ℕ) → n ≡ length t → length t ≤ length room → take n (sets room 0 t) ≡ t
+pub front-written : (room t : List ℕ) (n : ℕ) → n ≡ length t → length t ≤ length room → take n (sets room 0 t) ≡ t
 front-written room t n e fits = rw (e, room-after room t fits) (take-append-seam t (drop (length t) room))
 
 module _ (context : Context) (source : List ℕ) (short : length source ≤ 65536) (reads : readable context source ≡ true)
@@ -186,7 +186,7 @@ module _ (context : Context) (source : List ℕ) (short : length source ≤ 6553
   whole = decode builtin context (covered context source)
 
   -- As one row it passes.
-  one-row-passes : (n : ℕ) → n ≡ length (covered context source) → (c : Checked)
+  pub one-row-passes : (n : ℕ) → n ≡ length (covered context source) → (c : Checked)
       → c ≡ checkedOf builtin context source (n ∷ length (whole .text) ∷ length (whole .errors) ∷ []) (whole .text) (numbers (whole .errors))
       → Accepted c
   one-row-passes n e c is =
@@ -196,7 +196,7 @@ module _ (context : Context) (source : List ℕ) (short : length source ≤ 6553
       (rw bytes at is)
 
   -- The place where a source stops is how much of it is covered.
-  covered-length : length (covered context source) ≡ stopOf context source .place
+  pub covered-length : length (covered context source) ≡ stopOf context source .place
   covered-length = omega (arith, length-take (stopOf context source .place) source, stop-place context source)
 
   module _ (text errors : List ℕ) (d : Decoded) (text′ errors′ : List ℕ) (decodes : Decodes context source text errors d text′ errors′) where
