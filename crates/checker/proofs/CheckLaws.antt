@@ -7,6 +7,7 @@ use mathlib.Core.Logic.{_≢_}
 use lib.Dec.{eqb}
 use lib.ListN.{length, take}
 use borrow.Author.Tests.{eq-eqb, ne-eqb, lt-ltb, le-ltb}
+use Rattle.lists.specs.Bytes.{words}
 use Rattle.standard.specs.declared.Context.{Context}
 use Rattle.standard.specs.Answers.{done, context-end, too-long, not-whole, longest-slice}
 use Rattle.standard.specs.NameList.{builtin}
@@ -15,7 +16,7 @@ use Rattle.standard.specs.Reading.{stopOf}
 use Rattle.standard.proofs.BuiltinNames.{table-read}
 use Rattle.checker.specs.declared.checking.Checked.{Checked}
 use Rattle.checker.specs.declared.verdicts.Verdict as code
-use Rattle.checker.specs.Transcript.{right, Verdict, verdict, verdictOn, checked, checkedOf, words, checkedBytes}
+use Rattle.checker.specs.Transcript.{right, Verdict, verdict, verdictOn, checked, checkedOf, checkedBytes}
 use Rattle.checker.specs.Meeting.{Verdicts}
 
 -- The code's verdict, as the answer that has it.

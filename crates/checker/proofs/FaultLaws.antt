@@ -11,12 +11,13 @@ use lib.Dec.{eqb}
 use lib.ListN.{length, getD, take, drop, length-drop}
 use lib.Seq.{drop-cons}
 use borrow.Author.Tests.{ne-eqb, not-true}
+use Rattle.lists.specs.Notation.{between}
+use Rattle.lists.proofs.Choice.{and-true, between-true}
 use Rattle.standard.specs.declared.Context.{Context}
 use Rattle.standard.specs.declared.characters.CharRead.{CharRead}
 use Rattle.standard.specs.declared.characters.CharRead.the-variants.{Char, Incomplete, Illformed, End}
 use Rattle.standard.proofs.characters.CharRead.{the-type}
 use Rattle.standard.specs.declared.Context.the-variants.{Text, Attribute}
-use Rattle.standard.specs.Notation.{between}
 use Rattle.standard.specs.Contexts.{ends}
 use Rattle.standard.specs.Utf8.{readChar}
 use Rattle.standard.specs.Answers.{done, ill-formed}
@@ -24,7 +25,6 @@ use Rattle.standard.specs.Reading.{callsFor, answerTo, Stop, stops, stopOf}
 use Rattle.standard.proofs.Skips.{rest-from}
 use Rattle.standard.proofs.Utf8.{read-length, end-length}
 use Rattle.standard.proofs.Ascii.{read-ascii}
-use Rattle.standard.proofs.Choice.{and-true, between-true}
 use Rattle.standard.proofs.Looking.{Looking, looking-stops, looking-on}
 use Rattle.checker.specs.Runs.{endOf, quiet, Quiet}
 

@@ -11,18 +11,18 @@ use lib.Dec.{eqb}
 use lib.ListN.{length, getD, take, drop, length-append, length-drop, length-take, drop-of-length-le}
 use lib.Seq.{drop-drop, drop-cons, getD-drop}
 use borrow.Author.Tests.{eqb-true, eq-eqb, ne-eqb}
+use Rattle.lists.specs.Bytes.{word32, words}
+use Rattle.lists.proofs.Choice.{if-both, no-way, test?}
 use Rattle.standard.specs.declared.characters.CharRead.{CharRead}
 use Rattle.standard.specs.declared.characters.CharRead.the-variants.{Char}
 use Rattle.standard.proofs.characters.CharRead.{the-type}
 use Rattle.standard.specs.Utf8.{readChar, written, encode}
-use Rattle.standard.specs.Names.{stands, word32}
-use Rattle.standard.proofs.Choice.{if-both, no-way, test?}
+use Rattle.standard.specs.Names.{stands}
 use Rattle.standard.proofs.Narrow.{stands-fits}
 use Rattle.standard.proofs.RoundTrip.{encode-octets, encode-scalar}
 use Rattle.standard.proofs.Back.{read-back}
 use Rattle.standard.proofs.Utf8.{read-length}
 use Rattle.checker.specs.declared.meeting.Met.{Met}
-use Rattle.checker.specs.Transcript.{words}
 use Rattle.checker.specs.Meeting.{lent, Meets}
 
 -- Two words stand one after the other.

@@ -8,9 +8,9 @@ use native.Mathlib.Omega.{arith}
 use lib.Dec.{eqb}
 use lib.ListN.{length, getD, drop, List·getD-eq-default}
 use borrow.Author.Tests.{eq-eqb, ne-eqb}
-use Rattle.standard.specs.Notation.{next, nextIs}
-use Rattle.standard.proofs.Choice.{below?}
-use Rattle.standard.proofs.Nexts.{next-at, next-none}
+use Rattle.lists.specs.Notation.{next, nextIs}
+use Rattle.lists.proofs.Choice.{below?}
+use Rattle.lists.proofs.Nexts.{next-at, next-none}
 
 -- Where there is a byte, it is that.
 pub peek-there : (s : List ℕ) (at d e : ℕ) → at < length s → getD s at d ≡ getD s at e

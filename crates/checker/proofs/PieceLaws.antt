@@ -13,12 +13,13 @@ use lib.Dec.{ltb, eqb}
 use lib.ListN.{length, getD, take, drop, length-drop}
 use lib.Seq.{drop-drop, getD-drop}
 use borrow.Author.Tests.{eqb-true, lt-ltb, le-ltb}
+use Rattle.lists.specs.Notation.{if_then_else_, next, front}
+use Rattle.lists.proofs.Choice.{below?, or-true}
 use Rattle.standard.specs.declared.Context.{Context}
 use Rattle.standard.specs.declared.characters.CharRead.{CharRead}
 use Rattle.standard.specs.declared.characters.CharRead.the-variants.{Char, Incomplete, Illformed, End}
 use Rattle.standard.proofs.characters.CharRead.{the-type}
 use Rattle.standard.specs.declared.names.Found.{Found}
-use Rattle.standard.specs.Notation.{if_then_else_, next, front}
 use Rattle.standard.specs.Utf8.{octets, encode, readChar}
 use Rattle.standard.specs.Classes.{alphanumeric, characterCode}
 use Rattle.standard.specs.Numbers.{isDigit, number, meaningOf}
@@ -37,7 +38,6 @@ use Rattle.standard.specs.Pieces.{
   pieceAt,
 }
 use Rattle.standard.proofs.Back.{read-back}
-use Rattle.standard.proofs.Choice.{below?, or-true}
 use Rattle.standard.proofs.Skips.{rest-from}
 use Rattle.standard.proofs.FrontPiece.{
   digits-none,

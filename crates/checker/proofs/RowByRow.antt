@@ -10,11 +10,11 @@ use lib.Dec.{eqb}
 use lib.ListN.{length, getD, drop, length-drop, drop-of-length-le}
 use lib.Seq.{drop-cons}
 use borrow.Author.Tests.{eqb-true, eqb-false, ne-eqb}
+use Rattle.lists.proofs.Choice.{and-true, test?}
 use Rattle.standard.specs.declared.Context.{Context}
 use Rattle.standard.specs.Names.{Name}
 use Rattle.standard.specs.Reading.{piecesFrom, pieces}
 use Rattle.standard.proofs.Bounds.{pieces-unfold}
-use Rattle.standard.proofs.Choice.{and-true, test?}
 use Rattle.checker.specs.declared.rows.Judged.{Judged}
 use Rattle.checker.specs.declared.verdicts.Verdict as code
 use Rattle.checker.specs.Transcript.{row, rowsOf, Left, right, remains, spent, Verdict, verdict, judge, verdictOn}

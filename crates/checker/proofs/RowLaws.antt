@@ -15,7 +15,7 @@ use Rattle.standard.specs.Pieces.{Piece, pieceAt}
 use Rattle.standard.specs.Reading.{piecesFrom, pieces, Reading, joined}
 use Rattle.standard.proofs.Bounds.{pieces-unfold, pieces-induction}
 use Rattle.standard.proofs.PieceSize.{piece-size}
-use Rattle.standard.proofs.Puts.{numbers-length}
+use Rattle.standard.proofs.Joining.{numbers-length}
 use Rattle.checker.specs.declared.rows.Joint.{Joint}
 use Rattle.checker.specs.declared.rows.Judged.{Judged}
 use Rattle.checker.specs.Transcript.{row, Left, left, total, reached, right, wrong}

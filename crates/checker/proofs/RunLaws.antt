@@ -7,7 +7,7 @@ use mathlib.Core.Logic.{_⊎_, inl, inr, ⊎-elim}
 use native.Mathlib.Omega.{arith}
 use lib.ListN.{length, getD}
 use borrow.Author.Tests.{not-false}
-use Rattle.standard.proofs.Choice.{no-way, below?}
+use Rattle.lists.proofs.Choice.{no-way, below?}
 use Rattle.checker.specs.Runs.{quiet, Quiet, alike, Alike, AlikeIf, unitRow, UnitRows, PlainRows}
 
 -- Where neither of two tests holds, each fails.

@@ -10,8 +10,9 @@ use lib.Dec.{ltb, eqb}
 use lib.ListN.{length, getD, drop, length-drop}
 use lib.Seq.{drop-drop, drop-cons}
 use borrow.Author.Tests.{ltb-true, eqb-true, eq-eqb, not-true}
+use Rattle.lists.specs.Notation.{between}
+use Rattle.lists.proofs.Choice.{and-true, or-true}
 use Rattle.standard.specs.declared.Context.{Context}
-use Rattle.standard.specs.Notation.{between}
 use Rattle.standard.specs.Classes.{characterCode}
 use Rattle.standard.specs.Errors.{listed, numbers, placed}
 use Rattle.standard.specs.Names.{Name}
@@ -19,9 +20,8 @@ use Rattle.standard.specs.Pieces as standard
 use Rattle.standard.specs.Reading.{pieces, joined}
 use Rattle.standard.proofs.Ascii.{read-ascii, Plain, plain-printable, plain-blank}
 use Rattle.standard.proofs.Bounds.{pieces-unfold}
-use Rattle.standard.proofs.Choice.{and-true, or-true}
 use Rattle.standard.proofs.PieceSize.{piece-size}
-use Rattle.standard.proofs.Puts.{numbers-append}
+use Rattle.standard.proofs.Joining.{numbers-append}
 use Rattle.checker.specs.declared.meeting.Met.{Met}
 use Rattle.checker.specs.declared.rows.Joint.{Joint}
 use Rattle.checker.specs.Transcript.{total, reached}

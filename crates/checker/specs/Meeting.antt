@@ -6,8 +6,9 @@ use mathlib.Core.Bool.{true, _&&_}
 use mathlib.Core.Logic.{_⊎_}
 use lib.Dec.{eqb}
 use lib.ListN.{length, getD, drop}
+use Rattle.lists.specs.Notation.{if_then_else_}
+use Rattle.lists.specs.Bytes.{words}
 use Rattle.standard.specs.declared.Context.{Context}
-use Rattle.standard.specs.Notation.{if_then_else_}
 use Rattle.standard.specs.Classes.{characterCode}
 use Rattle.standard.specs.Errors.{listed, placed, numbers}
 use Rattle.standard.specs.Names.{Name, stands}
@@ -18,7 +19,7 @@ use Rattle.checker.specs.declared.rows.Joint.{Joint}
 use Rattle.checker.specs.declared.rows.Judged.{Judged}
 use Rattle.checker.specs.declared.verdicts.Verdict as code
 use Rattle.checker.specs.Runs.{lone}
-use Rattle.checker.specs.Transcript.{Row, Left, left, total, reached, wrong, right, remains, after, Verdict, words}
+use Rattle.checker.specs.Transcript.{Row, Left, left, total, reached, wrong, right, remains, after, Verdict}
 
 -- The numbers that are lent: words, or bytes where there are no words.
 abbrev pub lent : List ℕ → List ℕ → List ℕ

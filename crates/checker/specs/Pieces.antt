@@ -4,8 +4,8 @@ use Prim.Native.Char.{code}
 use mathlib.Core.List.{List, [], _∷_, _++_}
 use mathlib.Core.Bool.{Bool, _||_, _&&_}
 use lib.Dec.{eqb}
+use Rattle.lists.specs.Notation.{if_then_else_}
 use Rattle.standard.specs.declared.Context.{Context}
-use Rattle.standard.specs.Notation.{if_then_else_}
 use Rattle.standard.specs.Classes.{alphanumeric}
 use Rattle.standard.specs.Contexts.{inAttribute}
 use Rattle.standard.specs.Errors.{listed, missing-semicolon-after-character-reference}

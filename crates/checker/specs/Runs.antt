@@ -6,9 +6,9 @@ use mathlib.Core.List.{List}
 use mathlib.Core.Bool.{Bool, true, false, not, _||_, _&&_}
 use lib.Dec.{ltb, eqb}
 use lib.ListN.{length, getD}
+use Rattle.lists.specs.Notation.{between}
 use Rattle.standard.specs.declared.Context.{Context}
 use Rattle.standard.specs.declared.Context.the-variants.{Text, Attribute}
-use Rattle.standard.specs.Notation.{between}
 
 -- The character before which a source ends.
 abbrev pub endOf : Context → ℕ

@@ -4,11 +4,12 @@ use mathlib.Core.List.{List, [], _∷_}
 use mathlib.Core.Bool.{Bool, not, _||_, _&&_}
 use lib.Dec.{ltb, eqb}
 use lib.ListN.{length, drop}
+use Rattle.lists.specs.Notation.{if_then_else_}
+use Rattle.lists.specs.Bytes.{words}
 use Rattle.standard.specs.declared.Context.{Context}
-use Rattle.standard.specs.Notation.{if_then_else_}
 use Rattle.standard.specs.Answers.{done, too-long, not-whole, longest-slice}
 use Rattle.standard.specs.Errors.{numbers}
-use Rattle.standard.specs.Names.{Name, stands, word32}
+use Rattle.standard.specs.Names.{Name, stands}
 use Rattle.standard.specs.Pieces.{Piece}
 use Rattle.standard.specs.Reading.{Stop, stopOf, covered, readable, pieces, Reading, joined}
 use Rattle.checker.specs.declared.checking.Checked.{Checked}
@@ -123,14 +124,6 @@ checkedOf names context source rows text errors =
     else if not (eqb (length rows % 3) 0 && eqb (length errors % 2) 0) then checked not-whole (verdict right 0) 0
     else if not (readable context source) then checked (stop .answer) (verdict right 0) (stop .place)
     else checked done (verdictOn names context (covered context source) rows text errors) 0
-
--- Bytes in fours as numbers, the lowest byte first.
-unfoldable pub words : List ℕ → List ℕ
-words [] = []
-words (a ∷ []) = []
-words (a ∷ b ∷ []) = []
-words (a ∷ b ∷ c ∷ []) = []
-words (a ∷ b ∷ c ∷ d ∷ l) = word32 (a ∷ b ∷ c ∷ d ∷ []) 0 ∷ words l
 
 -- The answer where rows and errors are bytes: 10 also where these are no whole numbers.
 unfoldable pub checkedBytes : List Name → Context → (source rows text errors : List ℕ) → Checked

@@ -2,8 +2,8 @@
 ghost use mathlib.Core.Path.{_≡_};
 ghost use Prim.Native.Nat.{_≤_, _<_, _+_, _-_};
 ghost use lib.ListN.{length, drop};
+ghost use Rattle.lists.specs.Notation.{front};
 ghost use Rattle.standard.specs.Classes.{alphanumeric};
-ghost use Rattle.standard.specs.Notation.{front};
 ghost use Rattle.standard.specs.Names.{records, longest};
 ghost use Rattle.standard.specs.Pieces as standard;
 ghost use Rattle.standard.specs.Utf8.{readChar};

@@ -1,5 +1,5 @@
 -- The answers of a whole source: when each is given, and what then meets the contract.
-use Prim.Native.Nat.{ℕ, _+_, _*_, _/_, _≤_, _<_}
+use Prim.Native.Nat.{ℕ, _+_, _*_, _≤_, _<_}
 use mathlib.Core.Path.{_≡_, refl, sym, _∙_, ap, subst}
 use mathlib.Core.List.{List, []}
 use mathlib.Core.Bool.{_||_}
@@ -9,20 +9,21 @@ use lib.Dec.{ltb, eqb}
 use lib.ListN.{length, take}
 use lib.Seq.{sets, take-all}
 use borrow.Author.Tests.{lt-ltb, le-ltb, ne-eqb}
+use Rattle.lists.specs.Notation.{if_then_else_}
+use Rattle.lists.proofs.Choice.{below?, test?}
+use Rattle.lists.proofs.Layings.{Laying}
 use Rattle.standard.specs.declared.Context.{Context}
-use Rattle.standard.specs.Notation.{if_then_else_}
 use Rattle.standard.specs.Answers.{done, too-long, context-end, room-asked}
 use Rattle.standard.specs.Errors.{numbers}
 use Rattle.standard.specs.NameList.{builtin}
 use Rattle.standard.specs.Reading.{stopOf, covered, Reading, reading, decode}
-use Rattle.standard.specs.Rooms.{WroteBy}
+use Rattle.decoder.specs.Writing.{WroteBy, unreadOf, Reads}
 use Rattle.standard.proofs.Bounds.{text-fits, errors-fit}
 use Rattle.standard.proofs.Narrow.{builtin-narrow}
-use Rattle.standard.proofs.Choice.{below?, test?}
-use Rattle.standard.proofs.Puts.{numbers-length, Laying}
+use Rattle.standard.proofs.Joining.{numbers-length}
 use Rattle.standard.proofs.Stops.{stop-done, OneOf, stops-with}
 use Rattle.decoder.specs.declared.whole.Decoded.{Decoded}
-use Rattle.decoder.specs.Whole.{decoded, answerOf, writtenOf, textNamed, placeNamed, decodedOf, unreadOf, Reads, DecodesBy}
+use Rattle.decoder.specs.Whole.{decoded, answerOf, writtenOf, textNamed, placeNamed, decodedOf, DecodesBy}
 
 -- What is written with an answer.
 abbrev pub writtenWith : Context → List ℕ → ℕ → Reading

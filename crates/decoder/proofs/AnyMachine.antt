@@ -4,10 +4,10 @@ use mathlib.Core.Path.{_≡_, refl, sym, _∙_, ap}
 use mathlib.Core.List.{List, [], _∷_, _++_}
 use mathlib.Core.Bool.{Bool, true, false, not}
 use lib.Dec.{eqb}
-use Rattle.standard.specs.Notation.{if_then_else_}
+use Rattle.lists.specs.Notation.{if_then_else_}
 use Rattle.standard.specs.Answers.{done}
 use Rattle.standard.specs.Reading.{Reading, reading, _⊕_}
-use Rattle.standard.proofs.Puts.{⊕-assoc}
+use Rattle.standard.proofs.Joining.{⊕-assoc}
 
 -- What a run comes to: an answer, what was given, and the state where it stops.
 pub record Ran (S : Type 0) : Type 0 where

@@ -8,8 +8,10 @@ use native.Mathlib.Omega.{arith}
 use lib.Dec.{eqb}
 use lib.ListN.{length, getD, length-append, drop-of-length-le}
 use borrow.Author.Tests.{le-ltb}
+use Rattle.lists.specs.Notation.{if_then_else_}
+use Rattle.lists.proofs.Choice.{if-both}
+use Rattle.lists.proofs.Every.{All}
 use Rattle.standard.specs.declared.Context.{Context}
-use Rattle.standard.specs.Notation.{if_then_else_}
 use Rattle.standard.specs.Utf8.{readChar}
 use Rattle.standard.specs.Answers.{done}
 use Rattle.standard.specs.Names.{longest, begins}
@@ -20,10 +22,8 @@ use Rattle.standard.specs.Pieces.{pieceAt}
 use Rattle.standard.specs.Reading.{callsFor, Reading, readingAt, _⊕_}
 use Rattle.standard.proofs.Ascii.{read-ascii}
 use Rattle.standard.proofs.Bounds.{reading-fits}
-use Rattle.standard.proofs.Choice.{if-both}
 use Rattle.standard.proofs.Narrow.{builtin-narrow}
-use Rattle.standard.proofs.Every.{All}
-use Rattle.standard.proofs.Puts.{⊕-assoc, ⊕-none}
+use Rattle.standard.proofs.Joining.{⊕-assoc, ⊕-none}
 use Rattle.decoder.specs.Machine.{
   St,
   Data,

@@ -5,9 +5,9 @@ use mathlib.Core.List.{List, [], _∷_, _++_}
 use native.Mathlib.Omega.{arith}
 use lib.Dec.{eqb}
 use lib.ListN.{length, length-append}
+use Rattle.lists.proofs.Choice.{if-both}
 use Rattle.standard.specs.Errors.{no-error, listed, Error, error, placed, numbers}
-use Rattle.standard.proofs.Choice.{if-both}
-use Rattle.standard.proofs.Puts.{numbers-append}
+use Rattle.standard.proofs.Joining.{numbers-append}
 use Rattle.decoder.specs.declared.pieces.Piece.{Piece}
 use Rattle.decoder.specs.Pieces.{pieceOf}
 

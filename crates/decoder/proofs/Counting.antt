@@ -4,9 +4,9 @@ use mathlib.Core.Path.{_≡_, refl}
 use mathlib.Core.List.{List}
 use native.Mathlib.Omega.{arith}
 use lib.ListN.{length}
+use Rattle.lists.proofs.Choice.{if-both}
 use Rattle.standard.specs.Answers.{closed, too-long, stream-too-long, no-room}
 use Rattle.standard.specs.NameList.{builtin}
-use Rattle.standard.proofs.Choice.{if-both}
 use Rattle.decoder.specs.declared.stream.Stream.{Stream}
 use Rattle.decoder.specs.Stream.{
   Walked,

@@ -9,11 +9,12 @@ use native.Mathlib.Omega.{arith}
 use lib.Dec.{eqb}
 use lib.ListN.{length, take, length-append}
 use borrow.Author.Tests.{eqb-true, eqb-false, lt-ltb}
+use Rattle.lists.specs.Notation.{if_then_else_}
+use Rattle.lists.proofs.Choice.{if-both, no-way}
 use Rattle.standard.specs.declared.Context.{Context}
 use Rattle.standard.specs.declared.Context.the-variants.{Text, Attribute}
 use Rattle.standard.specs.declared.characters.CharRead.{CharRead}
 use Rattle.standard.specs.declared.characters.CharRead.the-variants.{Char, Incomplete, Illformed, End}
-use Rattle.standard.specs.Notation.{if_then_else_}
 use Rattle.standard.specs.Utf8.{readChar, octets, encode}
 use Rattle.standard.specs.Answers.{done, room-used-up, context-end}
 use Rattle.standard.specs.Names.{Name}
@@ -21,8 +22,7 @@ use Rattle.standard.specs.NameList.{builtin}
 use Rattle.standard.specs.Reading.{callsFor, Reading, _⊕_}
 use Rattle.standard.specs.Contexts as Contexts
 use Rattle.standard.specs.Contexts.{refused}
-use Rattle.standard.proofs.Choice.{if-both, no-way}
-use Rattle.standard.proofs.Puts.{⊕-assoc}
+use Rattle.standard.proofs.Joining.{⊕-assoc}
 use Rattle.standard.proofs.RoundTrip.{encode-short}
 use Rattle.standard.proofs.Utf8.{end-length}
 use Rattle.decoder.specs.Machine.{nothing, step}

@@ -8,11 +8,12 @@ use native.Mathlib.Omega.{arith}
 use lib.Dec.{eqb}
 use lib.ListN.{length, getD, drop, length-append, length-drop}
 use borrow.Author.Tests.{eqb-true}
+use Rattle.lists.specs.Notation.{if_then_else_}
+use Rattle.lists.proofs.Choice.{if-both}
 use Rattle.standard.specs.declared.Context.{Context}
 use Rattle.standard.specs.declared.characters.CharRead.{CharRead}
 use Rattle.standard.specs.declared.characters.CharRead.the-variants.{Char, Incomplete, Illformed, End}
 use Rattle.standard.specs.declared.names.Found.{Found}
-use Rattle.standard.specs.Notation.{if_then_else_}
 use Rattle.standard.specs.Utf8.{readChar}
 use Rattle.standard.specs.Answers.{done, context-end}
 use Rattle.standard.specs.Classes.{alphanumeric, characterCode}
@@ -23,7 +24,6 @@ use Rattle.standard.specs.Numbers.{isDigit, Meaning, meaningOf}
 use Rattle.standard.specs.Pieces.{Piece, piece, ampersand, numbered, charRefText, staysText, unknownName, namedBy}
 use Rattle.standard.specs.Reading.{Reading, readingAt, _⊕_}
 use Rattle.standard.proofs.Bounds.{length-placed}
-use Rattle.standard.proofs.Choice.{if-both}
 use Rattle.standard.proofs.Narrow.{FoundFits, builtin-narrow, longest-fits}
 use Rattle.standard.proofs.PieceSize.{listed-few}
 use Rattle.standard.proofs.RoundTrip.{encode-short}

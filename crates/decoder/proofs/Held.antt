@@ -8,9 +8,10 @@ use native.Mathlib.Omega.{arith}
 use lib.ListN.{length, getD, drop, length-append, List·getD-append}
 use lib.Seq.{getD-append-seam}
 use borrow.Author.Tests.{ne-eqb, eq-eqb}
+use Rattle.lists.specs.Notation.{if_then_else_, next, nextIs, front}
+use Rattle.lists.proofs.Every.{All}
 use Rattle.standard.specs.declared.Context.{Context}
 use Rattle.standard.specs.declared.names.Found.{Found}
-use Rattle.standard.specs.Notation.{if_then_else_, next, nextIs, front}
 use Rattle.standard.specs.Errors.{no-error, error, placed, absence-of-digits-in-numeric-character-reference, unknown-named-character-reference}
 use Rattle.standard.specs.Classes.{alphanumeric}
 use Rattle.standard.specs.Numbers.{digitOf, isDigit, numberFrom, Meaning}
@@ -18,7 +19,6 @@ use Rattle.standard.specs.Names.{Name, longest, begins}
 use Rattle.standard.specs.Pieces.{piece, ampersand, numbered, digitsThen, digitsAt, numeric, charRefText, unknownName, namedBy, reference, pieceAt}
 use Rattle.standard.specs.Reading.{Reading, reading, readingAt, _⊕_}
 use Rattle.standard.proofs.Ascii.{Plain}
-use Rattle.standard.proofs.Every.{All}
 use Rattle.standard.proofs.Stopped.{meaning-from}
 use Rattle.decoder.specs.Machine.{plain, noDigits, addDigit, finishNumeric, finishNamed}
 use Rattle.decoder.proofs.Looks.{is-x, reference-plain}

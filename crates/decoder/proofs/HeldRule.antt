@@ -9,18 +9,18 @@ use lib.Dec.{eqb}
 use lib.ListN.{length, getD, drop, length-append, List·getD-append}
 use lib.Seq.{drop-append-le, drop-append-seam}
 use borrow.Author.Tests.{eq-eqb, eqb-true, le-ltb}
+use Rattle.lists.specs.Notation.{if_then_else_, next, nextIs, every}
+use Rattle.lists.proofs.Choice.{facts, no-way, and-true, if-both}
 use Rattle.standard.specs.declared.Context.{Context}
 use Rattle.standard.specs.declared.names.Found.{Found}
-use Rattle.standard.specs.Notation.{if_then_else_, next, nextIs, every}
 use Rattle.standard.specs.Errors.{listed, placed}
 use Rattle.standard.specs.Classes.{alphanumeric, characterCode}
 use Rattle.standard.specs.Numbers.{digitOf, isDigit}
 use Rattle.standard.specs.Names.{Name, stands, longest, begins}
 use Rattle.standard.specs.Pieces.{Piece, namedBy}
 use Rattle.standard.specs.Reading.{Reading, reading, readingAt, _⊕_, decode}
-use Rattle.standard.proofs.Choice.{facts, no-way, and-true, if-both}
 use Rattle.standard.proofs.Narrow.{longest-fits}
-use Rattle.standard.proofs.Puts.{⊕-none}
+use Rattle.standard.proofs.Joining.{⊕-none}
 use Rattle.decoder.specs.Held.{isX, heldName, heldNumber, heldAfter, unheld}
 use Rattle.decoder.specs.Machine.{
   St,

@@ -10,13 +10,13 @@ use lib.Dec.{ltb, eqb}
 use lib.ListN.{length, getD, length-append}
 use lib.Seq.{getD-append-add}
 use borrow.Author.Tests.{ne-eqb, ltb-true}
+use Rattle.lists.proofs.Choice.{if-both}
 use Rattle.standard.specs.declared.Context.{Context}
 use Rattle.standard.specs.Classes.{alphanumeric}
 use Rattle.standard.specs.Numbers.{isDigit, digitOf}
 use Rattle.standard.specs.Utf8.{scalar, octets, encode}
 use Rattle.standard.specs.Names.{longest, begins}
 use Rattle.standard.specs.NameList.{builtin}
-use Rattle.standard.proofs.Choice.{if-both}
 use Rattle.standard.proofs.RoundTrip.{encode-short}
 use Rattle.decoder.specs.Held.{heldName}
 use Rattle.decoder.specs.Machine.{

@@ -10,16 +10,16 @@ use lib.Dec.{ltb, eqb}
 use lib.ListN.{length, take, drop, length-append, take-append-drop}
 use lib.Seq.{take-length, take-append-le}
 use borrow.Author.Tests.{le-ltb, eq-eqb, ne-eqb}
+use Rattle.lists.specs.Notation.{if_then_else_, nextIs}
+use Rattle.lists.proofs.Choice.{no-way, if-both, below?}
+use Rattle.lists.proofs.Every.{All}
 use Rattle.standard.specs.declared.Context.{Context}
 use Rattle.standard.specs.declared.characters.CharRead.the-variants.{Char}
-use Rattle.standard.specs.Notation.{if_then_else_, nextIs}
 use Rattle.standard.specs.Utf8.{octets, readChar}
 use Rattle.standard.specs.Answers.{done}
 use Rattle.standard.specs.Names.{Name}
 use Rattle.standard.specs.Reading.{Reading}
 use Rattle.standard.proofs.Back.{read-back}
-use Rattle.standard.proofs.Choice.{no-way, if-both, below?}
-use Rattle.standard.proofs.Every.{All}
 use Rattle.standard.proofs.RoundTrip.{encode-octets}
 use Rattle.standard.proofs.Utf8.{read-append, read-length, read-take}
 use Rattle.decoder.specs.Stream.{At, calledFor, moveBy, Walked, stopsAt, onward, lastOf, isPart}

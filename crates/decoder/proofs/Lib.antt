@@ -4,6 +4,7 @@ pub mod NumberLaws
 pub mod NameLaws
 pub mod Quiet
 pub mod Stopping
+pub mod Writing
 pub mod Walk
 pub mod Answering
 pub mod Tidy
@@ -12,6 +13,7 @@ pub mod Unfolding
 pub mod Means
 pub mod Held
 pub mod Simulates
+pub mod Running
 pub mod MachineReads
 pub mod Bytes
 pub mod Walks

@@ -9,16 +9,16 @@ use native.Mathlib.Omega.{arith}
 use lib.Dec.{eqb}
 use lib.ListN.{length, getD, take}
 use borrow.Author.Tests.{lt-ltb, le-ltb, ne-eqb, eqb-true}
+use Rattle.lists.specs.Notation.{next, nextIs}
+use Rattle.lists.proofs.Choice.{no-way, below?, outside-between}
+use Rattle.lists.proofs.Every.{All}
 use Rattle.standard.specs.declared.characters.CharRead.the-variants.{Char}
-use Rattle.standard.specs.Notation.{next, nextIs}
 use Rattle.standard.specs.Classes.{alphanumeric}
 use Rattle.standard.specs.Numbers.{digitOf, isDigit}
 use Rattle.standard.specs.Utf8.{octets, encode, readChar}
 use Rattle.standard.proofs.Ascii.{Plain, read-ascii}
 use Rattle.standard.proofs.Back.{read-back}
-use Rattle.standard.proofs.Choice.{no-way, below?, outside-between}
 use Rattle.standard.proofs.Computing.{computing}
-use Rattle.standard.proofs.Every.{All}
 use Rattle.standard.proofs.Lists.{below, below-at}
 use Rattle.standard.proofs.Utf8.{read-length}
 use Rattle.decoder.specs.Runs.{standing}

@@ -8,40 +8,21 @@ use native.Mathlib.Omega.{arith}
 use lib.Dec.{eqb}
 use lib.ListN.{length, take, drop}
 use borrow.Author.Tests.{eqb-true}
+use Rattle.lists.specs.Notation.{if_then_else_}
 use Rattle.standard.specs.declared.Context.{Context}
 use Rattle.standard.specs.declared.characters.CharRead.{CharRead}
 use Rattle.standard.specs.declared.characters.CharRead.the-variants.{Char, Incomplete, Illformed, End}
 use Rattle.standard.specs.declared.names.Found.{Found}
-use Rattle.standard.specs.Notation.{if_then_else_}
 use Rattle.standard.specs.Answers.{done}
 use Rattle.standard.specs.Utf8.{readChar}
 use Rattle.standard.specs.Names.{Name, longest}
 use Rattle.standard.specs.Reading.{answerTo, sizeOf, stops, stopFrom, Reading, _⊕_, decode}
 use Rattle.standard.proofs.Narrow.{longest-fits}
-use Rattle.standard.proofs.Puts.{⊕-none}
+use Rattle.standard.proofs.Joining.{⊕-none}
 use Rattle.standard.proofs.Skips.{drop-pred}
 use Rattle.standard.proofs.Utf8.{read-length, end-length}
-use Rattle.decoder.specs.Machine.{
-  St,
-  Data,
-  AfterCr,
-  Begin,
-  Octothorpe,
-  HexBegin,
-  Numeric,
-  Named,
-  BogusName,
-  plain,
-  noDigits,
-  finishNumeric,
-  finishNamed,
-  finish,
-  Step,
-  step,
-  stepRead,
-  runFrom,
-  run,
-}
+use Rattle.decoder.specs.Machine.{St, Data, AfterCr, Begin, Octothorpe, HexBegin, Numeric, Named, BogusName, plain, noDigits, finishNumeric, finishNamed, finish, Step, step}
+use Rattle.decoder.proofs.Running.{stepRead, runFrom, run}
 use Rattle.decoder.proofs.Looks.{looks, reference-plain, x-plain}
 use Rattle.decoder.proofs.Tidy.{Tidy, Alphanumerics, next-held}
 use Rattle.decoder.proofs.Unfolding.{readFrom, read-nothing}

@@ -8,9 +8,11 @@ use native.Mathlib.Omega.{arith}
 use lib.Dec.{eqb}
 use lib.ListN.{length, getD, drop, List·getD-append}
 use lib.Seq.{drop-append-le, drop-drop}
+use Rattle.lists.specs.Notation.{if_then_else_, next, nextIs, front}
+use Rattle.lists.proofs.Choice.{facts, if-both}
+use Rattle.lists.proofs.Every.{All}
 use Rattle.standard.specs.declared.Context.{Context}
 use Rattle.standard.specs.declared.names.Found.{Found}
-use Rattle.standard.specs.Notation.{if_then_else_, next, nextIs, front}
 use Rattle.standard.specs.Errors.{no-error, listed, placed, unknown-named-character-reference}
 use Rattle.standard.specs.Contexts.{inAttribute}
 use Rattle.standard.specs.Classes.{alphanumeric}
@@ -18,8 +20,6 @@ use Rattle.standard.specs.Numbers.{digitOf, isDigit, numberFrom, meaningOf}
 use Rattle.standard.specs.Names.{Name}
 use Rattle.standard.specs.Pieces.{Piece, piece, numbered, digitsThen, digitsAt, unknownName, namedBy, pieceAt}
 use Rattle.standard.specs.Reading.{Reading, reading, readingAt, _⊕_}
-use Rattle.standard.proofs.Choice.{facts, if-both}
-use Rattle.standard.proofs.Every.{All}
 use Rattle.decoder.specs.Machine.{St, Data, AfterCr, Begin, Octothorpe, HexBegin, Numeric, Named, BogusName, plain, finishNumeric}
 use Rattle.standard.proofs.Ascii.{Plain}
 use Rattle.decoder.proofs.Looks.{is-x, reference-plain}

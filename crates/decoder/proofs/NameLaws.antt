@@ -11,15 +11,15 @@ use lib.Dec.{ltb}
 use lib.ListN.{length, getD, drop}
 use lib.Seq.{drop-cons}
 use borrow.Author.Tests.{ne-eqb}
+use Rattle.lists.specs.Notation.{if_then_else_, next}
+use Rattle.lists.proofs.Fronts.{Stopped, Skipping, stopped-at, stopped-end, skipped}
+use Rattle.lists.proofs.Nexts.{next-at, next-none}
 use Rattle.standard.specs.declared.Context.{Context}
 use Rattle.standard.specs.declared.Context.the-variants.{Attribute}
 use Rattle.standard.specs.declared.names.Found.{Found}
-use Rattle.standard.specs.Notation.{if_then_else_, next}
 use Rattle.standard.specs.Classes.{alphanumeric}
 use Rattle.standard.specs.Pieces.{piece, charRefText, unknownName, namedBy, staysText}
 use Rattle.standard.proofs.FrontPiece.{unknown-at, by-none, by-closed, by-staying, by-open}
-use Rattle.standard.proofs.Fronts.{Stopped, Skipping, stopped-at, stopped-end, skipped}
-use Rattle.standard.proofs.Nexts.{next-at, next-none}
 use Rattle.decoder.specs.Pieces.{pieceOf, oneOf}
 use Rattle.decoder.proofs.PieceLaws.{alone}
 

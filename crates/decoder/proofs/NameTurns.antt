@@ -10,9 +10,9 @@ use lib.Dec.{eqb}
 use lib.ListN.{length, take, drop, set, length-append}
 use lib.Seq.{drop-length, take-nil, take-at}
 use borrow.Author.Tests.{ne-eqb, eq-eqb, eqb-true}
+use Rattle.lists.specs.Notation.{if_then_else_, nextIs, front}
 use Rattle.standard.specs.declared.Context.{Context}
 use Rattle.standard.specs.declared.names.Found.{Found}
-use Rattle.standard.specs.Notation.{if_then_else_, nextIs, front}
 use Rattle.standard.specs.Utf8.{octets, encode}
 use Rattle.standard.specs.Errors.{error, placed, no-error, unknown-named-character-reference}
 use Rattle.standard.specs.Classes.{alphanumeric, characterCode}

@@ -7,7 +7,7 @@ use mathlib.Core.Bool.{true, false}
 use mathlib.Core.Logic.{_≢_}
 use native.Mathlib.Numerals.{add-one}
 use lib.ListN.{length, drop}
-use Rattle.standard.specs.Notation.{next, front}
+use Rattle.lists.specs.Notation.{next, front}
 use Rattle.standard.specs.Numbers.{isDigit, number, meaningOf}
 use Rattle.standard.specs.Pieces.{digitsAt}
 use Rattle.standard.proofs.FrontPiece.{digits-none, digits-some}

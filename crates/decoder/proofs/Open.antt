@@ -10,16 +10,16 @@ use lib.Dec.{ltb, eqb}
 use lib.ListN.{length, getD, take, drop, replicate, length-take, length-append}
 use lib.Seq.{length-take-le, take-suc, take-all, take-append-seam, getD-take}
 use borrow.Author.Tests.{eq-eqb, eqb-true, ltb-true, lt-ltb, le-leb}
+use Rattle.lists.specs.Notation.{if_then_else_}
+use Rattle.lists.proofs.Choice as choice
+use Rattle.lists.proofs.Choice.{no-way, or-true}
+use Rattle.lists.proofs.Nexts.{next-at}
 use Rattle.standard.specs.declared.Context.{Context}
-use Rattle.standard.specs.Notation.{if_then_else_}
 use Rattle.standard.specs.Classes.{alphanumeric}
 use Rattle.standard.specs.Utf8.{readChar}
 use Rattle.standard.specs.Names.{stands, longest, begins}
 use Rattle.standard.specs.NameList.{builtin}
-use Rattle.standard.proofs.Choice as choice
-use Rattle.standard.proofs.Choice.{no-way, or-true}
 use Rattle.standard.proofs.Narrow.{stands-fits}
-use Rattle.standard.proofs.Nexts.{next-at}
 use Rattle.decoder.proofs.Turning.{begins-short}
 use Rattle.decoder.specs.declared.stream.State.{State}
 use Rattle.decoder.specs.declared.stream.State.the-variants as kind

@@ -4,9 +4,9 @@ use Prim.Native.Char.{code}
 use mathlib.Core.Path.{_≡_, sym, _∙_}
 use mathlib.Core.List.{List, _++_, append-nil}
 use lib.ListN.{length, getD, drop}
+use Rattle.lists.specs.Notation.{if_then_else_, next}
 use Rattle.standard.specs.declared.Context.{Context}
 use Rattle.standard.specs.declared.characters.CharRead.the-variants.{Char}
-use Rattle.standard.specs.Notation.{if_then_else_, next}
 use Rattle.standard.specs.Utf8.{octets, encode, readChar}
 use Rattle.standard.specs.Errors.{listed}
 use Rattle.standard.specs.Classes.{characterCode}

@@ -7,14 +7,14 @@ use mathlib.Core.Logic.{inl, inr, ⊎-elim}
 use native.Mathlib.Omega.{arith}
 use lib.Dec.{eqb}
 use borrow.Author.Tests.{eqb-true, eqb-false, eq-eqb, ne-eqb, not-true}
+use Rattle.lists.specs.Notation.{between}
+use Rattle.lists.proofs.Choice.{no-way, and-true, or-true, between-true}
 use Rattle.standard.specs.declared.Context.{Context}
 use Rattle.standard.specs.declared.Context.the-variants.{Text, Attribute}
-use Rattle.standard.specs.Notation.{between}
 use Rattle.standard.specs.Contexts.{ends}
 use Rattle.standard.specs.Answers.{done, context-end}
 use Rattle.standard.specs.Reading.{callsFor}
 use Rattle.standard.proofs.Ascii.{Plain, plain-printable, plain-blank}
-use Rattle.standard.proofs.Choice.{no-way, and-true, or-true, between-true}
 use Rattle.decoder.specs.Runs.{standing, plain, endOf, ordinary}
 
 -- A byte that stands for itself does so without an error.

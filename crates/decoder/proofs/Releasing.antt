@@ -8,6 +8,7 @@ use native.Mathlib.Numerals.{add-one}
 use lib.ListN.{length, getD, take, drop, set, length-append, length-take}
 use lib.Seq.{take-add, take-suc-set, drop-at, length-take-le}
 use borrow.Author.Tests.{ne-eqb}
+use Rattle.lists.specs.Rooms.{Put}
 use Rattle.standard.specs.declared.characters.CharRead.the-variants.{Char, Incomplete, Illformed}
 use Rattle.standard.specs.Utf8.{readChar, encode}
 use Rattle.standard.specs.Answers.{done}
@@ -15,8 +16,9 @@ use Rattle.standard.specs.Errors.{placed}
 use Rattle.standard.specs.NameList.{builtin}
 use Rattle.standard.specs.Pieces.{encodes}
 use Rattle.standard.specs.Reading.{callsFor, Reading, readingAt, _⊕_}
-use Rattle.standard.specs.Rooms.{Put, Wrote}
-use Rattle.standard.proofs.Puts.{⊕-none, wrote-none}
+use Rattle.decoder.specs.Writing.{Wrote}
+use Rattle.standard.proofs.Joining.{⊕-none}
+use Rattle.decoder.proofs.Writing.{wrote-none}
 use Rattle.standard.proofs.Utf8.{incomplete-length}
 use Rattle.rooms.proofs.Fits.{copy-fits}
 use Rattle.decoder.specs.declared.pieces.Piece.{Piece}

@@ -8,16 +8,16 @@ use native.Mathlib.Omega.{arith}
 use lib.Dec.{ltb, leb}
 use lib.ListN.{length, take, length-take}
 use borrow.Author.Tests.{leb-true, lt-ltb, le-ltb, ltb-true, ltb-false, not-true, not-false}
+use Rattle.lists.specs.Notation.{if_then_else_}
+use Rattle.lists.proofs.Choice.{if-both, and-true}
 use Rattle.standard.specs.declared.Context.{Context}
-use Rattle.standard.specs.Notation.{if_then_else_}
 use Rattle.standard.specs.Answers.{done, ill-formed, too-long, stream-too-long, no-room, closed}
 use Rattle.standard.specs.Errors.{numbers}
 use Rattle.standard.specs.NameList.{builtin}
 use Rattle.standard.specs.Reading.{Reading}
-use Rattle.standard.specs.Rooms.{Wrote}
+use Rattle.decoder.specs.Writing.{Wrote}
 use Rattle.standard.specs.Utf8.{readChar}
-use Rattle.standard.proofs.Choice.{if-both, and-true}
-use Rattle.standard.proofs.Puts.{numbers-length}
+use Rattle.standard.proofs.Joining.{numbers-length}
 use Rattle.decoder.specs.declared.feeding.Walked as code
 use Rattle.decoder.specs.declared.stream.Held.{Held}
 use Rattle.decoder.specs.declared.stream.Stream.{Stream}

@@ -5,7 +5,7 @@ use mathlib.Core.Bool.{true, false}
 use mathlib.Core.Logic.{_⊎_, inl, inr, ⊎-elim}
 use lib.Dec.{ltb}
 use borrow.Author.Tests.{lt-ltb, le-ltb}
-use Rattle.standard.proofs.Choice.{no-way, test?, below?}
+use Rattle.lists.proofs.Choice.{no-way, test?, below?}
 use Rattle.decoder.specs.Stream.{lacksRoom}
 
 -- Too little room.

@@ -8,17 +8,17 @@ use native.Mathlib.Omega.{arith}
 use lib.Dec.{eqb}
 use lib.ListN.{length, take, drop, length-append}
 use borrow.Author.Tests.{eqb-true}
+use Rattle.lists.specs.Notation.{if_then_else_, next, nextIs}
+use Rattle.lists.proofs.Choice.{no-way}
 use Rattle.standard.specs.declared.Context.{Context}
 use Rattle.standard.specs.declared.names.Found.{Found}
-use Rattle.standard.specs.Notation.{if_then_else_, next, nextIs}
 use Rattle.standard.specs.Errors.{error, listed, placed, unknown-named-character-reference}
 use Rattle.standard.specs.Classes.{alphanumeric, characterCode}
 use Rattle.standard.specs.Numbers.{digitOf, isDigit}
 use Rattle.standard.specs.Names.{Name, longest, begins}
 use Rattle.standard.specs.Reading.{Reading, reading, _⊕_}
-use Rattle.standard.proofs.Choice.{no-way}
 use Rattle.standard.proofs.Narrow.{longest-fits}
-use Rattle.standard.proofs.Puts.{⊕-assoc}
+use Rattle.standard.proofs.Joining.{⊕-assoc}
 use Rattle.decoder.specs.Machine.{
   St,
   Data,

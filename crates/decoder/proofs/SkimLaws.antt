@@ -10,10 +10,15 @@ use lib.Dec.{eqb}
 use lib.ListN.{length, getD, take, drop, length-take, length-drop, drop-of-length-le}
 use lib.Seq.{getD-take, getD-drop, take-suc, length-take-le, take-all, take-add, take-take, drop-at, drop-drop}
 use borrow.Author.Tests.{eqb-true, ne-eqb}
+use Rattle.lists.specs.Notation.{if_then_else_, front, every}
+use Rattle.lists.specs.Rooms.{Put}
+use Rattle.lists.proofs.Choice.{no-way, and-true}
+use Rattle.lists.proofs.Every.{All}
+use Rattle.lists.proofs.Fronts.{front-is-take, front-length}
+use Rattle.lists.proofs.Puts.{put-length}
 use Rattle.standard.specs.declared.Context.{Context}
 use Rattle.standard.specs.declared.Context.the-variants.{Text, Attribute}
 use Rattle.standard.specs.declared.characters.CharRead.the-variants.{Char}
-use Rattle.standard.specs.Notation.{if_then_else_, front, every}
 use Rattle.standard.specs.Utf8.{readChar}
 use Rattle.standard.specs.Answers.{done}
 use Rattle.standard.specs.Classes.{alphanumeric, characterCode}
@@ -23,13 +28,11 @@ use Rattle.standard.specs.NameList.{builtin}
 use Rattle.standard.specs.Pieces as standard
 use Rattle.standard.specs.Pieces.{character, pieceAt}
 use Rattle.standard.specs.Reading.{callsFor, Reading, reading, readingAt, _⊕_}
-use Rattle.standard.specs.Rooms.{Put, Wrote}
+use Rattle.decoder.specs.Writing.{Wrote}
 use Rattle.standard.proofs.Ascii.{read-ascii}
 use Rattle.standard.proofs.BuiltinNames.{table-read}
-use Rattle.standard.proofs.Choice.{no-way, and-true}
-use Rattle.standard.proofs.Every.{All}
-use Rattle.standard.proofs.Fronts.{front-is-take, front-length}
-use Rattle.standard.proofs.Puts.{⊕-none, wrote-none, wrote-text, wrote-join, put-length, numbers-length}
+use Rattle.standard.proofs.Joining.{⊕-none, numbers-length}
+use Rattle.decoder.proofs.Writing.{wrote-none, wrote-text, wrote-join}
 use Rattle.standard.proofs.Utf8.{read-end, read-length, read-take}
 use Rattle.decoder.specs.declared.pieces.Piece.{Piece}
 use Rattle.decoder.specs.declared.stream.State.the-variants as kind

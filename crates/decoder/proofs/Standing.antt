@@ -7,8 +7,9 @@ use mathlib.Core.Logic.{_≢_, _⊎_, inl, inr}
 use native.Mathlib.Omega.{arith}
 use lib.Dec.{eqb}
 use lib.ListN.{length, take, length-append, length-take}
+use Rattle.lists.specs.Notation.{if_then_else_}
+use Rattle.lists.proofs.Choice.{if-both, no-way}
 use Rattle.standard.specs.declared.Context.{Context}
-use Rattle.standard.specs.Notation.{if_then_else_}
 use Rattle.standard.specs.Answers.{
   done,
   ill-formed,
@@ -23,8 +24,7 @@ use Rattle.standard.specs.Answers.{
 }
 use Rattle.standard.specs.NameList.{builtin}
 use Rattle.standard.specs.Reading.{Reading, _⊕_}
-use Rattle.standard.proofs.Choice.{if-both, no-way}
-use Rattle.standard.proofs.Puts.{⊕-none}
+use Rattle.standard.proofs.Joining.{⊕-none}
 use Rattle.decoder.specs.declared.stream.Stream.{Stream}
 use Rattle.standard.proofs.Utf8.{read-end}
 use Rattle.decoder.specs.Machine.{St, nothing, finish}

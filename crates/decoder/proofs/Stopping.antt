@@ -6,15 +6,15 @@ use mathlib.Core.Logic.{⊎-elim}
 use native.Mathlib.Omega.{arith}
 use lib.ListN.{length, take, drop, length-drop}
 use lib.Seq.{drop-drop}
+use Rattle.lists.specs.Notation.{front}
+use Rattle.lists.proofs.Choice.{below?}
+use Rattle.lists.proofs.Fronts.{front-length}
 use Rattle.standard.specs.declared.Context.{Context}
 use Rattle.standard.specs.declared.characters.CharRead.{CharRead}
-use Rattle.standard.specs.Notation.{front}
 use Rattle.standard.specs.Utf8.{readChar}
 use Rattle.standard.specs.Answers.{done}
 use Rattle.standard.specs.Reading.{callsFor, answerTo, sizeOf, Stop, stopFrom, stopOf}
 use Rattle.standard.proofs.Ascii.{stop-run}
-use Rattle.standard.proofs.Fronts.{front-length}
-use Rattle.standard.proofs.Choice.{below?}
 use Rattle.standard.proofs.Skips.{rest-from}
 use Rattle.standard.proofs.Looking.{Looking, looking-stops, looking-on, size-some}
 use Rattle.decoder.specs.Runs.{endOf, ordinary}

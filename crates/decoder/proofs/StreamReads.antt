@@ -8,20 +8,21 @@ use lib.Dec.{eqb}
 use lib.ListN.{length, take, drop, length-append}
 use lib.Seq.{take-append-seam, drop-append-seam}
 use borrow.Author.Tests.{eq-eqb, ne-eqb, eqb-true, eqb-false}
+use Rattle.lists.specs.Notation.{if_then_else_}
+use Rattle.lists.proofs.Choice.{no-way}
 use Rattle.standard.specs.declared.Context.{Context}
 use Rattle.standard.specs.declared.characters.CharRead.{CharRead}
 use Rattle.standard.specs.declared.characters.CharRead.the-variants.{Char, Incomplete, Illformed, End}
-use Rattle.standard.specs.Notation.{if_then_else_}
 use Rattle.standard.specs.Utf8.{readChar}
 use Rattle.standard.specs.Answers.{done, ill-formed, context-end}
 use Rattle.standard.specs.Names.{Name}
 use Rattle.standard.specs.Reading.{callsFor, answerTo, sizeOf, Stop, stops, stopFrom, stopOf, covered, Reading, _⊕_, decode}
-use Rattle.standard.proofs.Choice.{no-way}
-use Rattle.standard.proofs.Puts.{⊕-assoc, ⊕-none}
+use Rattle.standard.proofs.Joining.{⊕-assoc, ⊕-none}
 use Rattle.standard.proofs.Stops.{stop-read}
 use Rattle.standard.proofs.Utf8.{Settled, read-append, read-length, end-length}
 use Rattle.decoder.specs.Held.{unheld, released}
-use Rattle.decoder.specs.Machine.{St, Data, Step, nothing, step, finish, stepRead, runFrom, run}
+use Rattle.decoder.specs.Machine.{St, Data, Step, nothing, step, finish}
+use Rattle.decoder.proofs.Running.{stepRead, runFrom, run}
 use Rattle.decoder.specs.Stream.{At, atBy, placeOf, calledFor, moveBy, Walked, stopsAt, onward, lastOf, isPart}
 use Rattle.decoder.proofs.Bytes.{go, start}
 use Rattle.decoder.proofs.Tidy.{Tidy}

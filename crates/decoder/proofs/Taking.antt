@@ -9,17 +9,19 @@ use lib.Dec.{eqb}
 use lib.ListN.{length, getD, take, drop, length-append, length-drop, take-append-drop, drop-of-length-le}
 use lib.Seq.{drop-cons, take-add, take-all}
 use borrow.Author.Tests.{eqb-false}
+use Rattle.lists.specs.Notation.{if_then_else_}
+use Rattle.lists.proofs.Puts.{put-length}
 use Rattle.standard.specs.declared.Context.{Context}
 use Rattle.standard.specs.declared.characters.CharRead.{CharRead}
 use Rattle.standard.specs.declared.characters.CharRead.the-variants.{Char, Incomplete, Illformed, End}
-use Rattle.standard.specs.Notation.{if_then_else_}
 use Rattle.standard.specs.Utf8.{readChar, encode}
 use Rattle.standard.specs.Answers.{done, room-used-up}
 use Rattle.standard.specs.NameList.{builtin}
 use Rattle.standard.specs.Reading.{callsFor, Reading, _⊕_}
-use Rattle.standard.specs.Rooms.{Wrote}
+use Rattle.decoder.specs.Writing.{Wrote}
 use Rattle.standard.proofs.Back.{read-back}
-use Rattle.standard.proofs.Puts.{wrote-none, wrote-join, put-length, numbers-length}
+use Rattle.decoder.proofs.Writing.{wrote-none, wrote-join}
+use Rattle.standard.proofs.Joining.{numbers-length}
 use Rattle.standard.proofs.Utf8.{read-end, end-length, incomplete-length}
 use Rattle.decoder.specs.declared.stream.Stream.{Stream}
 use Rattle.decoder.specs.declared.feeding.Walked as code

@@ -8,14 +8,14 @@ use native.Mathlib.Omega.{arith}
 use lib.Dec.{ltb, eqb}
 use lib.ListN.{length}
 use borrow.Author.Tests.{eq-eqb, ne-eqb, eqb-true, eqb-false}
+use Rattle.lists.specs.Notation.{if_then_else_, nextIs}
+use Rattle.lists.proofs.Choice.{no-way, and-true}
+use Rattle.lists.proofs.Every.{All, every-all, all-member}
 use Rattle.standard.specs.declared.names.Found.{Found}
-use Rattle.standard.specs.Notation.{if_then_else_, nextIs}
 use Rattle.standard.specs.Classes.{alphanumeric}
 use Rattle.standard.specs.Names.{Name, stands, nothing, foundAs, longer, longestFrom, longest, begins}
 use Rattle.standard.specs.NameList.{builtin}
-use Rattle.standard.proofs.Choice.{no-way, and-true}
 use Rattle.standard.proofs.Computing.{computing}
-use Rattle.standard.proofs.Every.{All, every-all, all-member}
 use Rattle.standard.proofs.Longest.{longest-most}
 use Rattle.standard.proofs.Narrow.{longest-cases, longest-fits}
 

@@ -10,6 +10,7 @@ use lib.Dec.{ltb, eqb}
 use lib.ListN.{length, getD, take, drop, set, replicate, length-append, length-replicate}
 use lib.Seq.{drop-length, take-append-seam, set-append-seam}
 use borrow.Author.Tests.{lt-ltb, le-ltb, eq-eqb, ne-eqb, eqb-true}
+use Rattle.lists.proofs.Choice.{below?}
 use Rattle.standard.specs.declared.Context.{Context}
 use Rattle.standard.specs.Utf8.{octets, encode}
 use Rattle.standard.specs.Errors.{placed}
@@ -19,7 +20,6 @@ use Rattle.standard.specs.NameList.{builtin}
 use Rattle.standard.specs.Pieces as standard
 use Rattle.standard.specs.Pieces.{encodes, ampersand}
 use Rattle.standard.specs.Reading.{Reading, reading, readingAt, _⊕_}
-use Rattle.standard.proofs.Choice.{below?}
 use Rattle.decoder.specs.declared.pieces.Piece.{Piece}
 use Rattle.decoder.specs.declared.stream.Held.{Held}
 use Rattle.decoder.specs.declared.stream.State.{State}

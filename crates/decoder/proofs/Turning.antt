@@ -1,5 +1,5 @@
 -- Laws of a name's beginning that is held, and of a character that may go on with it.
-use Prim.Native.Nat.{ℕ, _+_, _-_, _≤_, _<_}
+use Prim.Native.Nat.{ℕ, _-_, _≤_, _<_}
 use Prim.Native.Char.{code}
 use mathlib.Core.Path.{_≡_, refl, sym, _∙_, ap}
 use mathlib.Core.List.{List, [], _∷_, _++_}
@@ -10,14 +10,14 @@ use lib.Dec.{ltb, leb, eqb}
 use lib.ListN.{length, drop, length-append}
 use lib.Seq.{drop-append-seam}
 use borrow.Author.Tests.{lt-ltb, le-ltb, ltb-true, leb-true, eq-eqb, eqb-true}
-use Rattle.standard.specs.Notation.{nextIs}
+use Rattle.lists.specs.Notation.{nextIs}
+use Rattle.lists.proofs.Choice.{if-both, no-way, test?, below?, and-true}
+use Rattle.lists.proofs.Every.{All, every-all, all-member}
 use Rattle.standard.specs.Utf8.{octets, written, encode, scalar}
 use Rattle.standard.specs.Classes.{alphanumeric}
 use Rattle.standard.specs.Names.{Name, stands, begins}
 use Rattle.standard.specs.NameList.{builtin}
-use Rattle.standard.proofs.Choice.{if-both, no-way, test?, below?, and-true}
 use Rattle.standard.proofs.Computing.{computing}
-use Rattle.standard.proofs.Every.{All, every-all, all-member}
 use Rattle.standard.proofs.Narrow.{stands-fits}
 use Rattle.decoder.specs.Held.{closedName, heldName}
 use Rattle.decoder.specs.Turns.{asciiOf}

@@ -8,8 +8,9 @@ use native.Mathlib.Omega.{arith}
 use lib.Dec.{eqb}
 use lib.ListN.{length, take, drop, length-drop}
 use lib.Seq.{drop-append-le}
+use Rattle.lists.specs.Notation.{next}
+use Rattle.lists.proofs.Every.{All}
 use Rattle.standard.specs.declared.Context.{Context}
-use Rattle.standard.specs.Notation.{next}
 use Rattle.standard.specs.Errors.{listed, placed}
 use Rattle.standard.specs.Classes.{characterCode}
 use Rattle.standard.specs.Names.{Name}
@@ -17,8 +18,7 @@ use Rattle.standard.specs.Pieces.{Piece, piece, pieceAt}
 use Rattle.standard.specs.Reading.{piecesFrom, pieces, Reading, reading, readingAt, _⊕_, joined}
 use Rattle.standard.proofs.Ascii.{Plain}
 use Rattle.standard.proofs.Bounds.{pieces-unfold}
-use Rattle.standard.proofs.Every.{All}
-use Rattle.standard.proofs.Puts.{⊕-assoc}
+use Rattle.standard.proofs.Joining.{⊕-assoc}
 use Rattle.standard.proofs.Skips.{drop-pred}
 use Rattle.decoder.proofs.Looks.{Looks, ascii, looks-read, looks-length, next-same}
 

@@ -7,19 +7,23 @@ use native.Mathlib.Nat.{zero-add, mul-comm, mul-le-mul-right}
 use native.Mathlib.Omega.{arith}
 use lib.ListN.{length, take, drop, length-append, length-drop, drop-of-length-le}
 use lib.Seq.{drop-drop, sets, sets-eq, take-append-seam}
+use Rattle.lists.specs.Notation.{front}
+use Rattle.lists.specs.Bytes.{fours}
+use Rattle.lists.specs.Rooms.{Put}
+use Rattle.lists.proofs.Fronts.{front-is-take, front-length}
+use Rattle.lists.proofs.Puts.{put-length}
+use Rattle.lists.proofs.Layings.{Laying}
 use Rattle.standard.specs.declared.Context.{Context}
-use Rattle.standard.specs.Notation.{front}
 use Rattle.standard.specs.Names.{Name, tableOf, records}
 use Rattle.standard.specs.NameList.{builtin}
 use Rattle.standard.specs.Pieces as standard
 use Rattle.standard.specs.Pieces.{pieceAt}
 use Rattle.standard.specs.Reading.{piecesFrom, pieces, Reading, reading, readingAt, _⊕_, joined, decode}
 use Rattle.standard.specs.Errors.{numbers}
-use Rattle.standard.specs.Rooms.{Put, fours, WroteBy, Wrote}
+use Rattle.decoder.specs.Writing.{WroteBy, Wrote}
 use Rattle.standard.proofs.Ascii.{Plain, joined-run}
 use Rattle.standard.proofs.Bounds.{pieces-unfold, text-fits, errors-fit}
 use Rattle.standard.proofs.BuiltinNames.{table-read}
-use Rattle.standard.proofs.Fronts.{front-is-take, front-length}
 use Rattle.standard.proofs.Narrow.{Narrow, builtin-narrow}
 use Rattle.standard.proofs.Skips.{rest-from}
 use Rattle.rooms.proofs.Fits.{copy-fits, numbers-fit}
@@ -28,7 +32,8 @@ use Rattle.decoder.specs.Pieces.{pieceOf}
 use Rattle.decoder.specs.Runs.{plain, endOf}
 use Rattle.decoder.proofs.Quiet.{plain-is}
 use Rattle.standard.proofs.PieceSize.{piece-size}
-use Rattle.standard.proofs.Puts.{Laying, by-none, by-text, by-join, put-length, numbers-length, ⊕-assoc, ⊕-none}
+use Rattle.decoder.proofs.Writing.{by-none, by-text, by-join}
+use Rattle.standard.proofs.Joining.{numbers-length, ⊕-assoc, ⊕-none}
 
 -- What is still to be read from at on.
 abbrev pub rest : List Name → Context → List ℕ → ℕ → Reading

@@ -9,16 +9,16 @@ use lib.ListN.{length, take, drop, length-append}
 use lib.Seq.{take-at}
 use lib.Dec.{eqb}
 use borrow.Author.Tests.{ne-eqb, eqb-false}
+use Rattle.lists.specs.Notation.{if_then_else_}
+use Rattle.lists.proofs.Choice.{below?}
 use Rattle.standard.specs.declared.Context.{Context}
 use Rattle.standard.specs.declared.characters.CharRead.{CharRead}
 use Rattle.standard.specs.declared.characters.CharRead.the-variants.{Char, Incomplete, Illformed, End}
 use Rattle.standard.specs.Utf8.{readChar}
 use Rattle.standard.specs.Answers.{done, ill-formed, room-used-up}
 use Rattle.standard.specs.Names.{Name}
-use Rattle.standard.specs.Notation.{if_then_else_}
 use Rattle.standard.specs.Reading.{callsFor, Reading, _⊕_}
-use Rattle.standard.proofs.Choice.{below?}
-use Rattle.standard.proofs.Puts.{⊕-assoc, ⊕-none}
+use Rattle.standard.proofs.Joining.{⊕-assoc, ⊕-none}
 use Rattle.standard.proofs.Utf8.{read-append, read-length, end-length, incomplete-length, illformed-length, read-take}
 use Rattle.standard.proofs.Soonest.{illformed-never}
 use Rattle.decoder.specs.Machine.{St, Step, nothing, step}

@@ -5,14 +5,14 @@ use mathlib.Core.List.{List, [], _∷_, _++_}
 use mathlib.Core.Bool.{true, not}
 use lib.Dec.{eqb}
 use lib.ListN.{length, take, drop}
+use Rattle.lists.specs.Notation.{if_then_else_}
 use Rattle.standard.specs.declared.Context.{Context}
-use Rattle.standard.specs.Notation.{if_then_else_}
 use Rattle.standard.specs.Utf8.{readChar}
 use Rattle.standard.specs.Answers.{done}
 use Rattle.standard.specs.Names.{Name}
 use Rattle.standard.specs.NameList.{builtin}
 use Rattle.standard.specs.Reading.{callsFor, Reading}
-use Rattle.standard.specs.Rooms.{Wrote}
+use Rattle.decoder.specs.Writing.{Wrote}
 use Rattle.decoder.specs.declared.feeding.Walked.{Walked}
 use Rattle.decoder.specs.declared.stream.Stream.{Stream}
 use Rattle.decoder.specs.Machine.{Step, step}

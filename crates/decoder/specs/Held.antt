@@ -5,8 +5,8 @@ use mathlib.Core.List.{List, [], _∷_}
 use mathlib.Core.Bool.{Bool, true, false, not, _||_, _&&_}
 use lib.Dec.{eqb}
 use lib.ListN.{length, drop}
+use Rattle.lists.specs.Notation.{if_then_else_, next, every}
 use Rattle.standard.specs.declared.Context.{Context}
-use Rattle.standard.specs.Notation.{if_then_else_, next, every}
 use Rattle.standard.specs.Numbers.{isDigit}
 use Rattle.standard.specs.Names.{Name, longest, begins}
 use Rattle.standard.specs.Reading.{covered, Reading, decode}

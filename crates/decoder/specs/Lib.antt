@@ -1,6 +1,7 @@
 pub mod Runs
 pub mod Pieces
 pub mod Whole
+pub mod Writing
 pub mod Machine
 pub mod Held
 pub mod Stream

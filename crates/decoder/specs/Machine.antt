@@ -1,16 +1,13 @@
 -- The machine: a covered source, character by character, with what is held as its state. The states are those of CharRefTokenizer.
-use Prim.Native.Nat.{ℕ, zero, suc, _+_, _-_, _*_, min}
+use Prim.Native.Nat.{ℕ, _+_, _-_, _*_, min}
 use Prim.Native.Char.{code}
 use mathlib.Core.List.{List, [], _∷_, _++_}
 use mathlib.Core.Bool.{Bool, true, false, _||_}
 use lib.Dec.{eqb}
-use lib.ListN.{take, drop}
+use lib.ListN.{drop}
+use Rattle.lists.specs.Notation.{if_then_else_}
 use Rattle.standard.specs.declared.Context.{Context}
-use Rattle.standard.specs.declared.characters.CharRead.{CharRead}
-use Rattle.standard.specs.declared.characters.CharRead.the-variants.{Char, Incomplete, Illformed, End}
 use Rattle.standard.specs.declared.names.Found.{Found}
-use Rattle.standard.specs.Notation.{if_then_else_}
-use Rattle.standard.specs.Utf8.{readChar}
 use Rattle.standard.specs.Errors.{
   error,
   listed,
@@ -22,7 +19,7 @@ use Rattle.standard.specs.Classes.{alphanumeric, characterCode}
 use Rattle.standard.specs.Numbers.{digitOf, isDigit, meaningOf}
 use Rattle.standard.specs.Names.{Name, longest, begins}
 use Rattle.standard.specs.Pieces.{Piece, numbered, namedBy}
-use Rattle.standard.specs.Reading.{sizeOf, Reading, reading, readingAt, _⊕_}
+use Rattle.standard.specs.Reading.{Reading, reading, readingAt, _⊕_}
 
 -- What is held; q is the place of the `&`, whose error may wait.
 pub data St : Type 0 where
@@ -157,22 +154,3 @@ finish names context (Numeric q intro base value) = finishNumeric q value false
 finish names context (Named q held) =
     if eqb (longest names held .len) 0 then plain (code "&" ∷ held) else finishNamed context q (longest names held) held []
 finish names context (BogusName q) = nothing
-
--- A step by what is read; bytes that are no character change nothing.
-abbrev pub stepRead : List Name → Context → St → (p : ℕ) → CharRead → List ℕ → Step
-stepRead names context st p (Char c n) s = step names context st p c (take n s)
-stepRead names context st p (Incomplete n) s = to nothing st
-stepRead names context st p (Illformed n) s = to nothing st
-stepRead names context st p End s = to nothing st
-
--- The machine over a covered source whose next character begins after skip bytes, at place p.
-unfoldable pub runFrom : List Name → Context → St → (skip p : ℕ) → List ℕ → Reading
-runFrom names context st skip p [] = finish names context st
-runFrom names context st zero p (b ∷ s) =
-    let r : CharRead = readChar (b ∷ s) in
-    let t : Step = stepRead names context st p r (b ∷ s) in t .gives ⊕ runFrom names context (t .next) (sizeOf r - 1) (suc p) s
-runFrom names context st (suc skip) p (b ∷ s) = runFrom names context st skip (suc p) s
-
--- The machine over a covered source.
-abbrev pub run : List Name → Context → List ℕ → Reading
-run names context s = runFrom names context Data 0 0 s

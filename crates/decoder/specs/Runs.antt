@@ -3,9 +3,9 @@ use Prim.Native.Nat.{ℕ}
 use Prim.Native.Char.{code}
 use mathlib.Core.Bool.{Bool, not, _||_, _&&_}
 use lib.Dec.{eqb}
+use Rattle.lists.specs.Notation.{between}
 use Rattle.standard.specs.declared.Context.{Context}
 use Rattle.standard.specs.declared.Context.the-variants.{Text, Attribute}
-use Rattle.standard.specs.Notation.{between}
 
 -- A byte that is a character of its own, stands for itself and has no error: printable ASCII but `&`, and LF and tab.
 abbrev pub standing : ℕ → Bool

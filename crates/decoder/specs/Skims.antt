@@ -7,13 +7,13 @@ use mathlib.Core.Bool.{Bool, true, _||_}
 use mathlib.Core.Logic.{_⊎_}
 use lib.Dec.{eqb}
 use lib.ListN.{length, getD, take, drop}
+use Rattle.lists.specs.Notation.{every}
 use Rattle.standard.specs.declared.Context.{Context}
-use Rattle.standard.specs.Notation.{every}
 use Rattle.standard.specs.Answers.{done}
 use Rattle.standard.specs.Classes.{alphanumeric}
 use Rattle.standard.specs.NameList.{builtin}
 use Rattle.standard.specs.Reading.{Reading, readingAt}
-use Rattle.standard.specs.Rooms.{Wrote}
+use Rattle.decoder.specs.Writing.{Wrote}
 use Rattle.decoder.specs.declared.pieces.Piece.{Piece}
 use Rattle.decoder.specs.Machine.{Data}
 use Rattle.decoder.specs.Pieces.{pieceOf, noneOf}

@@ -7,7 +7,7 @@ use mathlib.Core.Bool.{true}
 use mathlib.Core.Logic.{_⊎_}
 use lib.Dec.{ltb}
 use lib.ListN.{length, take, drop}
-use Rattle.standard.specs.Notation.{if_then_else_}
+use Rattle.lists.specs.Notation.{if_then_else_}
 use Rattle.standard.specs.Classes.{alphanumeric}
 use Rattle.standard.specs.Reading.{Reading, readingAt, _⊕_}
 use Rattle.standard.specs.NameList.{builtin}

@@ -6,13 +6,13 @@ use mathlib.Core.Bool.{_||_}
 use lib.Dec.{ltb, eqb}
 use lib.ListN.{length}
 use lib.Seq.{sets}
+use Rattle.lists.specs.Notation.{if_then_else_}
+use Rattle.lists.specs.Bytes.{plainly, fours}
 use Rattle.standard.specs.declared.Context.{Context}
-use Rattle.standard.specs.Notation.{if_then_else_}
 use Rattle.standard.specs.Answers.{done, ill-formed, nul, too-long, context-end, room-asked, longest-slice}
 use Rattle.standard.specs.Errors.{numbers}
 use Rattle.standard.specs.NameList.{builtin}
 use Rattle.standard.specs.Reading.{Stop, stopOf, covered, Reading, reading, decode, text-bound, errors-bound}
-use Rattle.standard.specs.Rooms.{plainly, fours}
 use Rattle.decoder.specs.declared.whole.Decoded.{Decoded}
 
 -- The room that a source of n bytes asks for: text bytes, and error numbers.
@@ -53,19 +53,6 @@ decodedOf context s text errors =
     let answer : ℕ = answerOf context s text errors in
     let written : Reading = writtenOf context s text errors in
     decoded answer (textNamed answer s written) (length (written .errors)) (placeNamed answer (stopOf context s))
-
--- The answer as it is before anything is written.
-abbrev pub unreadOf : Context → List ℕ → (text errors : ℕ) → Decoded
-unreadOf context s text errors =
-    let answer : ℕ = answerOf context s text errors in
-    decoded answer (textNamed answer s (reading [] [])) 0 (placeNamed answer (stopOf context s))
-
--- A result that says what was written, and the rooms that hold it, the error numbers laid so.
-pub record Reads (lay : List ℕ → List ℕ) (reads : Reading) (answer place : ℕ) (text errors : List ℕ) (r : Decoded) (text′ errors′ : List ℕ)
-    : Type 0 where
-  pub answered : r ≡ decoded answer (length (reads .text)) (length (reads .errors)) place
-  pub texts : text′ ≡ sets text 0 (reads .text)
-  pub numbers-of : errors′ ≡ sets errors 0 (lay (numbers (reads .errors)))
 
 -- What a call gives for a source and two rooms, with room for so many error numbers, laid so: its result, and what the rooms then hold.
 pub record DecodesBy (lay : List ℕ → List ℕ) (room : ℕ) (context : Context) (source text errors : List ℕ) (r : Decoded) (text′ errors′ : List ℕ)

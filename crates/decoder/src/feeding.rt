@@ -6,7 +6,7 @@ ghost use Rattle.standard.specs.Utf8.{encode};
 ghost use Rattle.standard.specs.Names.{tableOf};
 ghost use Rattle.standard.specs.NameList.{builtin};
 ghost use Rattle.standard.specs.Reading.{readingAt, _⊕_};
-ghost use Rattle.standard.specs.Rooms.{Wrote};
+ghost use Rattle.decoder.specs.Writing.{Wrote};
 ghost use Rattle.decoder.specs.Machine as machine;
 ghost use Rattle.decoder.specs.Pieces.{pieceOf};
 ghost use Rattle.decoder.specs.Stream as spec;

@@ -2,7 +2,7 @@
 ghost use mathlib.Core.Path.{_≡_};
 ghost use Prim.Native.Nat.{_≤_, _<_, _+_, _*_, min};
 ghost use lib.ListN.{length, drop};
-ghost use Rattle.standard.specs.Notation.{front};
+ghost use Rattle.lists.specs.Notation.{front};
 ghost use Rattle.standard.specs.Numbers.{digitOf, isDigit, number, replacements, replacedBy, meaningOf};
 use crate::classes::control;
 use crate::classes::noncharacter;

@@ -3,7 +3,7 @@
 ghost use mathlib.Core.Path.{_≡_};
 ghost use Prim.Native.Nat.{_≤_, _<_, _+_};
 ghost use lib.ListN.{length, drop};
-ghost use Rattle.standard.specs.Notation.{if_then_else_, next};
+ghost use Rattle.lists.specs.Notation.{if_then_else_, next};
 ghost use Rattle.standard.specs.Utf8.{readChar};
 ghost use Rattle.standard.specs.Names.{records, longest};
 ghost use Rattle.standard.specs.Pieces as standard;

@@ -3,7 +3,7 @@
 ghost use mathlib.Core.Path.{_≡_};
 ghost use Prim.Native.Nat.{_≤_, _<_, _+_, _-_};
 ghost use lib.ListN.{length, take, drop};
-ghost use Rattle.standard.specs.Notation.{front, every};
+ghost use Rattle.lists.specs.Notation.{front, every};
 ghost use Rattle.decoder.specs.Runs as spec;
 use standard::Context;
 

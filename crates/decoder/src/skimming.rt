@@ -1,12 +1,11 @@
 // A chunk where nothing is held: runs are copied, and other characters that stand for themselves and references that end in their own `;` are
 // written, without a look at the record.
 ghost use mathlib.Core.Path.{_≡_};
-ghost use mathlib.Core.List.{[]};
 ghost use Prim.Native.Nat.{_≤_, _<_, _+_, _-_, min};
 ghost use lib.ListN.{length, getD, take, drop};
+ghost use Rattle.lists.specs.Rooms.{Put};
 ghost use Rattle.standard.specs.Names.{tableOf};
 ghost use Rattle.standard.specs.NameList.{builtin};
-ghost use Rattle.standard.specs.Rooms.{Put};
 ghost use Rattle.decoder.specs.Skims.{Runs, inReference, Ends, Alone, Skims};
 use crate::classes::alphanumeric;
 use crate::classes::character_code;

@@ -3,7 +3,7 @@ ghost use mathlib.Core.Path.{_≡_};
 ghost use mathlib.Core.Bool.{true};
 ghost use Prim.Native.Nat.{_≤_, _-_, _/_};
 ghost use lib.ListN.{length, take};
-ghost use Rattle.standard.specs.Notation.{if_then_else_};
+ghost use Rattle.lists.specs.Notation.{if_then_else_};
 ghost use Rattle.standard.specs.NameList.{builtin};
 ghost use Rattle.decoder.specs.Stream as spec;
 use crate::feeding::Walked;

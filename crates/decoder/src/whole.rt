@@ -2,11 +2,12 @@
 ghost use mathlib.Core.Path.{_≡_};
 ghost use Prim.Native.Nat.{_≤_, _+_, _*_};
 ghost use lib.ListN.{length};
+ghost use Rattle.lists.specs.Bytes.{plainly, fours};
 ghost use Rattle.standard.specs.Names.{tableOf};
 ghost use Rattle.standard.specs.NameList.{builtin};
 ghost use Rattle.standard.specs.Reading.{decode};
-ghost use Rattle.standard.specs.Rooms.{plainly, fours, WroteBy, Wrote};
-ghost use Rattle.decoder.specs.Whole.{unreadOf, Reads, Decodes, DecodesBytes};
+ghost use Rattle.decoder.specs.Writing.{WroteBy, Wrote, unreadOf, Reads};
+ghost use Rattle.decoder.specs.Whole.{Decodes, DecodesBytes};
 use crate::pieces::piece_at;
 use crate::runs::plain_run;
 use crate::stops::find_stop;

@@ -9,15 +9,16 @@ use native.Mathlib.Omega.{arith}
 use lib.Dec.{eqb}
 use lib.ListN.{length}
 use borrow.Author.Tests.{le-ltb, eqb-true, eqb-false, eq-eqb}
+use Rattle.lists.specs.Notation.{if_then_else_}
+use Rattle.lists.specs.Bytes.{words}
+use Rattle.lists.proofs.Choice.{no-way, test?, below?, and-true}
 use Rattle.standard.specs.declared.Context.{Context}
-use Rattle.standard.specs.Notation.{if_then_else_}
 use Rattle.standard.specs.Answers.{done, ill-formed, nul, too-long, context-end, not-whole}
 use Rattle.standard.specs.NameList.{builtin}
 use Rattle.standard.specs.Reading.{Stop, stopOf, covered, readable}
-use Rattle.standard.proofs.Choice.{no-way, test?, below?, and-true}
 use Rattle.standard.proofs.Stops.{OneOf, stops-with}
 use Rattle.checker.specs.declared.checking.Checked.{Checked}
-use Rattle.checker.specs.Transcript.{right, Verdict, verdict, verdictOn, checked, checkedOf, words, checkedBytes}
+use Rattle.checker.specs.Transcript.{right, Verdict, verdict, verdictOn, checked, checkedOf, checkedBytes}
 use Rattle.checker.proofs.CheckLaws.{check-long, bytes-long, bytes-rows, bytes-errors, bytes-checked}
 use Rattle.demands.proofs.Lines.{Line, line}
 

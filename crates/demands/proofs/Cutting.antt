@@ -8,13 +8,13 @@ use mathlib.Core.Logic.{_≢_, _⊎_, inl, inr, ⊎-elim}
 use native.Mathlib.Omega.{arith}
 use lib.ListN.{length, take, drop, length-append, length-take, take-append-drop}
 use lib.Seq.{drop-append-le}
+use Rattle.lists.proofs.Choice.{if-both, no-way}
+use Rattle.lists.proofs.Every.{All}
 use Rattle.standard.specs.declared.Context.{Context}
 use Rattle.standard.specs.Answers.{done, ill-formed, nul, too-long, stream-too-long, no-room, room-used-up, context-end, closed, longest-stream}
 use Rattle.standard.specs.NameList.{builtin}
 use Rattle.standard.specs.Reading.{Stop, stops, stopOf, covered, Reading, _⊕_, decode}
-use Rattle.standard.proofs.Choice.{if-both, no-way}
-use Rattle.standard.proofs.Every.{All}
-use Rattle.standard.proofs.Puts.{⊕-assoc, ⊕-none}
+use Rattle.standard.proofs.Joining.{⊕-assoc, ⊕-none}
 use Rattle.decoder.specs.declared.stream.Stream.{Stream}
 use Rattle.decoder.specs.Held.{released}
 use Rattle.decoder.specs.Machine.{nothing, finish}

@@ -6,13 +6,13 @@ use mathlib.Core.Logic.{_⊎_, inl, inr}
 use native.Mathlib.Omega.{arith}
 use lib.ListN.{length, drop, set}
 use lib.Seq.{drop-set-lt, sets}
+use Rattle.lists.specs.Bytes.{fours}
+use Rattle.lists.proofs.Layings.{laid-fours}
 use Rattle.standard.specs.declared.Context.{Context}
 use Rattle.standard.specs.Answers.{too-long, room-asked}
 use Rattle.standard.specs.Errors.{numbers}
 use Rattle.standard.specs.NameList.{builtin}
 use Rattle.standard.specs.Reading.{stopOf, covered, Reading, decode}
-use Rattle.standard.specs.Rooms.{fours}
-use Rattle.standard.proofs.Puts.{laid-fours}
 use Rattle.standard.proofs.Stops.{OneOf, stop-place}
 use Rattle.decoder.specs.declared.whole.Decoded.{Decoded}
 use Rattle.decoder.specs.Whole.{decoded, DecodesBytes}

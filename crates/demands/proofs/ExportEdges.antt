@@ -3,15 +3,13 @@ use Prim.Native.Nat.{ℕ, zero, suc}
 use Prim.Native.String.{String}
 use mathlib.Core.Path.{_≡_, refl}
 use mathlib.Core.List.{List, [], _∷_, map}
+use Rattle.lists.specs.Bytes.{fours, words}
 use Rattle.standard.specs.Errors.{numbers}
 use Rattle.standard.specs.Utf8.{bytes}
-use Rattle.standard.specs.Rooms.{fours}
 use Rattle.standard.proofs.Computing.{computing}
 use Rattle.decoder.specs.Whole.{answerOf, writtenOf, decodedOf}
-use Rattle.escaper.specs.Escape.{writtenFor, escapeFrom, escapedOf}
-use Rattle.escaper.specs.Escape.{answerOf as escapeAnswer}
-use Rattle.escaper.specs.Escape.{writtenOf as escapeWritten}
-use Rattle.checker.specs.Transcript.{rowsOf, total, reached, wrong, judge, checkedOf, words, checkedBytes}
+use Rattle.escaper.specs.Escape.{writtenFor, escapeFrom, escapedOf, answerOf as escapeAnswer, writtenOf as escapeWritten}
+use Rattle.checker.specs.Transcript.{rowsOf, total, reached, wrong, judge, checkedOf, checkedBytes}
 use Rattle.exports.specs.Exports.{Given, reported, untouched, meant, contextOf, modeOf, asked, decodes, escapes, checks}
 
 -- So many bytes of a room or a report.

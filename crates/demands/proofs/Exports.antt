@@ -9,13 +9,13 @@ use lib.Dec.{eqb}
 use lib.ListN.{length, drop}
 use lib.Seq.{sets}
 use borrow.Author.Tests.{eqb-true, eqb-false}
+use Rattle.lists.specs.Bytes.{fours, words}
+use Rattle.lists.proofs.Choice.{test?, below?}
+use Rattle.lists.proofs.Layings.{laid-fours}
 use Rattle.standard.specs.declared.Context.{Context}
 use Rattle.standard.specs.declared.Context.the-variants.{Text, Attribute}
 use Rattle.standard.specs.Answers.{too-long, no-room, room-asked, not-whole}
 use Rattle.standard.specs.NameList.{builtin}
-use Rattle.standard.specs.Rooms.{fours}
-use Rattle.standard.proofs.Choice.{test?, below?}
-use Rattle.standard.proofs.Puts.{laid-fours}
 use Rattle.standard.proofs.Stops.{OneOf}
 use Rattle.decoder.specs.declared.whole.Decoded.{Decoded}
 use Rattle.decoder.specs.Whole.{decodedOf, Decodes, DecodesBytes}
@@ -24,7 +24,7 @@ use Rattle.escaper.specs.declared.Mode.the-variants as mode
 use Rattle.escaper.specs.declared.Escaped.{Escaped}
 use Rattle.escaper.specs.Escape.{writtenOf, escapedOf, Escapes}
 use Rattle.checker.specs.declared.checking.Checked.{Checked}
-use Rattle.checker.specs.Transcript.{right, verdict, checked, checkedOf, words, checkedBytes}
+use Rattle.checker.specs.Transcript.{right, verdict, checked, checkedOf, checkedBytes}
 use Rattle.exports.specs.Exports.{Given, untouched, meant, contextOf, modeOf, asked, decodes, escapes, checks, Gives}
 use Rattle.exports.proofs.Laws.{report-whole, asked-length, asked-text, asked-attribute, asked-other}
 use Rattle.demands.proofs.Lines.{Line}

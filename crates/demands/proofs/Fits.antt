@@ -8,7 +8,7 @@ use lib.ListN.{length, drop}
 use lib.Seq.{sets, sets-eq}
 use Rattle.standard.specs.Errors.{numbers}
 use Rattle.standard.specs.NameList.{builtin}
-use Rattle.standard.proofs.Puts.{numbers-length}
+use Rattle.standard.proofs.Joining.{numbers-length}
 use Rattle.decoder.specs.declared.stream.Stream.{Stream}
 use Rattle.decoder.specs.declared.stream.Fed.{Fed}
 use Rattle.decoder.specs.Stream.{Outcome, feedOf, endOf, fedOf, Feeds}

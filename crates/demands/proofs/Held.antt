@@ -10,14 +10,14 @@ use lib.Dec.{leb, eqb}
 use lib.ListN.{length, take, length-append}
 use lib.Seq.{length-take-le, take-length}
 use borrow.Author.Tests.{eqb-true}
+use Rattle.lists.specs.Notation.{if_then_else_}
+use Rattle.lists.proofs.Choice.{no-way, test?}
 use Rattle.standard.specs.declared.Context.{Context}
-use Rattle.standard.specs.Notation.{if_then_else_}
 use Rattle.standard.specs.Answers.{done, ill-formed, context-end, longest-stream}
 use Rattle.standard.specs.NameList.{builtin}
 use Rattle.standard.specs.Reading as Reading
 use Rattle.standard.specs.Reading.{Stop, stopOf, covered, Reading, _⊕_, decode}
-use Rattle.standard.proofs.Choice.{no-way, test?}
-use Rattle.standard.proofs.Puts.{⊕-assoc, ⊕-none}
+use Rattle.standard.proofs.Joining.{⊕-assoc, ⊕-none}
 use Rattle.decoder.specs.declared.stream.Stream.{Stream}
 use Rattle.decoder.specs.Held.{released}
 use Rattle.decoder.specs.Machine.{nothing, finish}

@@ -9,19 +9,17 @@ use lib.Dec.{eqb}
 use lib.ListN.{length, drop, length-append}
 use lib.Seq.{take-append-seam, drop-append-seam, drop-at}
 use borrow.Author.Tests.{eqb-true, eqb-false, eq-eqb, ne-eqb, le-ltb, lt-ltb}
-use Rattle.standard.specs.Notation.{if_then_else_}
+use Rattle.lists.specs.Notation.{if_then_else_}
+use Rattle.lists.proofs.Choice.{no-way, test?, below?, and-true}
+use Rattle.lists.proofs.Every.{All}
 use Rattle.standard.specs.Errors.{numbers}
 use Rattle.standard.specs.Names.{stands}
 use Rattle.standard.specs.Pieces.{Piece}
 use Rattle.standard.specs.Reading.{Reading, _⊕_, joined}
-use Rattle.standard.proofs.Choice.{no-way, test?, below?, and-true}
-use Rattle.standard.proofs.Every.{All}
-use Rattle.standard.proofs.Puts.{numbers-append, numbers-length}
-use Rattle.checker.specs.Transcript.{Row, row, rowsOf, Left, left, total, reached, wrong, after, spent, verdict, judge}
-use Rattle.checker.specs.Transcript.{right, no-source, no-piece-end, text-differs, errors-differ, remains}
+use Rattle.standard.proofs.Joining.{numbers-append, numbers-length}
+use Rattle.checker.specs.Transcript.{Row, row, rowsOf, Left, left, total, reached, wrong, after, spent, verdict, judge, right, no-source, no-piece-end, text-differs, errors-differ, remains}
 use Rattle.checker.proofs.Meetings.{stands-front, front-stands}
-use Rattle.demands.proofs.RightRows.{PieceEnd, TextComes, ErrorsCome, Right, Cuts, none, first, Spent, Good, Remains, FirstWrong, column}
-use Rattle.demands.proofs.RightRows.{Wrong, no-bytes, past, within, no-text, no-errors, together, rowsFor, inThrees}
+use Rattle.demands.proofs.RightRows.{PieceEnd, TextComes, ErrorsCome, Right, Cuts, none, first, Spent, Good, Remains, FirstWrong, column, Wrong, no-bytes, past, within, no-text, no-errors, together, rowsFor, inThrees}
 use Rattle.demands.proofs.Reaching.{Sized, sized-parts, total-append, total-least, reached-front, reached-cut, reached-some, joined-append}
 
 -- A word stands before all that comes after it.

@@ -8,18 +8,18 @@ use native.Mathlib.Omega.{arith}
 use lib.Dec.{eqb}
 use lib.ListN.{length, take, length-take}
 use lib.Seq.{sets, length-sets}
+use Rattle.lists.specs.Notation.{if_then_else_}
+use Rattle.lists.specs.Bytes.{fours}
+use Rattle.lists.proofs.Choice.{no-way}
+use Rattle.lists.proofs.Layings.{laid-fours}
 use Rattle.standard.specs.declared.Context.{Context}
-use Rattle.standard.specs.Notation.{if_then_else_}
 use Rattle.standard.specs.Answers.{done, context-end}
 use Rattle.standard.specs.Errors.{numbers}
 use Rattle.standard.specs.NameList.{builtin}
 use Rattle.standard.specs.Reading.{stopOf, covered, readable, Reading, decode}
-use Rattle.standard.specs.Rooms.{fours}
-use Rattle.standard.proofs.Choice.{no-way}
-use Rattle.standard.proofs.Puts.{laid-fours}
 use Rattle.standard.proofs.Stops.{stop-place, stop-done, OneOf, stops-with}
 use Rattle.checker.specs.declared.checking.Checked.{Checked}
-use Rattle.checker.specs.Transcript.{words, checkedBytes}
+use Rattle.checker.specs.Transcript.{checkedBytes}
 use Rattle.decoder.specs.declared.whole.Decoded.{Decoded}
 use Rattle.decoder.specs.Whole.{decoded, DecodesBytes}
 use Rattle.demands.proofs.Laws.{text-short, errors-few, rooms-suffice}

@@ -7,10 +7,10 @@ use native.Mathlib.Omega.{arith}
 use lib.Dec.{eqb}
 use lib.ListN.{length, take, length-take}
 use lib.Seq.{take-append-le}
+use Rattle.lists.specs.Notation.{if_then_else_}
 use Rattle.standard.specs.declared.Context.{Context}
 use Rattle.standard.specs.declared.characters.CharRead.{CharRead}
 use Rattle.standard.specs.declared.characters.CharRead.the-variants.{Char, Incomplete, Illformed, End}
-use Rattle.standard.specs.Notation.{if_then_else_}
 use Rattle.standard.specs.Utf8.{readChar, scalar, encode}
 use Rattle.standard.specs.Classes.{characterCode}
 use Rattle.standard.specs.Numbers.{meaningOf}
@@ -28,7 +28,7 @@ use Rattle.standard.proofs.Soonest as Soonest
 use Rattle.standard.proofs.Longest as Longest
 use Rattle.standard.proofs.Lists as Lists
 use Rattle.standard.specs.Errors.{numbers}
-use Rattle.standard.proofs.Puts.{numbers-length}
+use Rattle.standard.proofs.Joining.{numbers-length}
 use Rattle.decoder.specs.Whole.{textRoom, errorRoom}
 use Rattle.escaper.specs.declared.Mode.{Mode}
 use Rattle.escaper.specs.Escape.{escape}

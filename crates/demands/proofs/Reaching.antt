@@ -4,14 +4,14 @@ use mathlib.Core.Path.{_≡_, refl, sym, _∙_, ap}
 use mathlib.Core.List.{List, [], _∷_, _++_}
 use native.Mathlib.Omega.{arith}
 use lib.ListN.{length, drop}
+use Rattle.lists.proofs.Every.{All}
 use Rattle.standard.specs.declared.Context.{Context}
 use Rattle.standard.specs.Names.{Name}
 use Rattle.standard.specs.Pieces.{Piece}
 use Rattle.standard.specs.Reading.{pieces, Reading, _⊕_, readingAt, joined}
-use Rattle.standard.proofs.Every.{All}
 use Rattle.standard.proofs.PieceSize.{piece-size}
 use Rattle.standard.proofs.Bounds.{pieces-unfold, pieces-induction}
-use Rattle.standard.proofs.Puts.{⊕-assoc}
+use Rattle.standard.proofs.Joining.{⊕-assoc}
 use Rattle.checker.specs.Transcript.{total, reached}
 
 -- Every piece has a byte.

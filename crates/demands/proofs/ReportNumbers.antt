@@ -8,17 +8,17 @@ use native.Mathlib.Omega.{arith}
 use lib.Dec.{eqb}
 use lib.ListN.{length, take, length-append, length-take}
 use lib.Seq.{sets, sets-eq, take-append-seam}
+use Rattle.lists.specs.Bytes.{word32, fourBytes, fours, words}
+use Rattle.lists.proofs.Choice.{if-both}
+use Rattle.lists.proofs.Every.{All}
+use Rattle.lists.proofs.Layings.{laid-fours}
 use Rattle.standard.specs.declared.Context.{Context}
 use Rattle.standard.specs.Answers.{done, ill-formed, nul, too-long, context-end, room-asked, not-whole}
 use Rattle.standard.specs.Errors.{Error, numbers}
-use Rattle.standard.specs.Names.{word32, fourBytes}
 use Rattle.standard.specs.NameList.{builtin}
 use Rattle.standard.specs.Reading.{answerTo, sizeOf, Stop, stopFrom, stopOf, covered, pieces, decode}
 use Rattle.standard.specs.Utf8.{readChar}
-use Rattle.standard.specs.Rooms.{fours}
-use Rattle.standard.proofs.Every.{All}
-use Rattle.standard.proofs.Choice.{if-both}
-use Rattle.standard.proofs.Puts.{laid-fours, numbers-length}
+use Rattle.standard.proofs.Joining.{numbers-length}
 use Rattle.standard.proofs.Stops.{stop-place}
 use Rattle.decoder.specs.declared.whole.Decoded.{Decoded}
 use Rattle.decoder.specs.Whole.{DecodesBytes}
@@ -26,8 +26,7 @@ use Rattle.escaper.specs.declared.Mode.{Mode}
 use Rattle.escaper.specs.declared.Escaped.{Escaped}
 use Rattle.escaper.specs.Escape.{Escapes}
 use Rattle.checker.specs.declared.checking.Checked.{Checked}
-use Rattle.checker.specs.Transcript.{Row, rowsOf, Left, left, right, remains, Verdict, verdict, judge, verdictOn}
-use Rattle.checker.specs.Transcript.{checked, checkedOf, words, checkedBytes}
+use Rattle.checker.specs.Transcript.{Row, rowsOf, Left, left, right, remains, Verdict, verdict, judge, verdictOn, checked, checkedOf, checkedBytes}
 use Rattle.checker.proofs.RowLaws.{pieces-total}
 use Rattle.reporting.proofs.Codes.{Placed, errors-placed}
 use Rattle.demands.proofs.RightRows.{Cuts, none, first}

@@ -9,10 +9,11 @@ use native.Mathlib.Omega.{arith}
 use lib.Dec.{eqb}
 use lib.ListN.{length, length-append}
 use lib.Seq.{sets}
+use Rattle.lists.specs.Notation.{if_then_else_}
+use Rattle.lists.proofs.Choice.{no-way, test?, below?}
 use Rattle.standard.specs.declared.Context.{Context}
 use Rattle.standard.specs.declared.characters.CharRead.the-variants.{Illformed}
 use Rattle.standard.specs.Contexts.{ends}
-use Rattle.standard.specs.Notation.{if_then_else_}
 use Rattle.standard.specs.Utf8.{readChar}
 use Rattle.standard.specs.Answers.{
   done,
@@ -28,8 +29,7 @@ use Rattle.standard.specs.Answers.{
 use Rattle.standard.specs.Errors.{numbers}
 use Rattle.standard.specs.NameList.{builtin}
 use Rattle.standard.specs.Reading.{Reading, _⊕_}
-use Rattle.standard.proofs.Choice.{no-way, test?, below?}
-use Rattle.standard.proofs.Puts.{⊕-none}
+use Rattle.standard.proofs.Joining.{⊕-none}
 use Rattle.decoder.specs.declared.stream.Stream.{Stream}
 use Rattle.decoder.specs.declared.stream.Fed.{Fed}
 use Rattle.decoder.specs.Machine.{nothing, finish}

@@ -9,16 +9,17 @@ use native.Mathlib.Omega.{arith}
 use lib.Dec.{eqb}
 use lib.ListN.{length, take, drop, length-take}
 use lib.Seq.{sets, take-append-seam}
+use Rattle.lists.specs.Notation.{if_then_else_}
+use Rattle.lists.proofs.Choice.{no-way}
+use Rattle.lists.proofs.Every.{All}
+use Rattle.lists.proofs.Layings.{laid-plainly}
 use Rattle.standard.specs.declared.Context.{Context}
-use Rattle.standard.specs.Notation.{if_then_else_}
 use Rattle.standard.specs.Answers.{done, context-end}
 use Rattle.standard.specs.Errors.{numbers}
 use Rattle.standard.specs.NameList.{builtin}
 use Rattle.standard.specs.Pieces.{Piece}
 use Rattle.standard.specs.Reading.{stopOf, covered, readable, piecesFrom, pieces, Reading, decode}
-use Rattle.standard.proofs.Choice.{no-way}
-use Rattle.standard.proofs.Every.{All}
-use Rattle.standard.proofs.Puts.{numbers-length, laid-plainly}
+use Rattle.standard.proofs.Joining.{numbers-length}
 use Rattle.standard.proofs.Stops.{stop-place, stop-done, OneOf, stops-with}
 use Rattle.checker.specs.declared.checking.Checked.{Checked}
 use Rattle.checker.specs.Transcript.{rowsOf, Left, left, total, right, remains, Verdict, judge, checked, checkedOf}
@@ -30,8 +31,7 @@ use Rattle.demands.proofs.Lines.{Line, LineOf}
 use Rattle.demands.proofs.Laws.{rooms-suffice}
 use Rattle.demands.proofs.RightRows.{none, Good, Remains, FirstWrong, together, rowsFor, inThrees, column}
 use Rattle.demands.proofs.Reaching.{Sized, pieces-sized, pieces-some}
-use Rattle.demands.proofs.Judging.{RowsAre, good, first-wrong, remaining, rowOf}
-use Rattle.demands.proofs.Judging.{wrong-between, judge-says, some-verdict, cuts-columns, cuts-reads, groups-good, threes-read, threes-length}
+use Rattle.demands.proofs.Judging.{RowsAre, good, first-wrong, remaining, rowOf, wrong-between, judge-says, some-verdict, cuts-columns, cuts-reads, groups-good, threes-read, threes-length}
 use Rattle.demands.proofs.CheckAnswers as check-answers
 use Rattle.demands.proofs.WholeAnswers as whole-answers
 

@@ -9,18 +9,18 @@ use native.Mathlib.Omega.{arith}
 use lib.Dec.{eqb}
 use lib.ListN.{length, getD, take, length-append, length-take}
 use borrow.Author.Tests.{eqb-true, eqb-false, ne-eqb, lt-ltb}
+use Rattle.lists.specs.Notation.{if_then_else_}
+use Rattle.lists.proofs.Choice.{if-both}
 use Rattle.standard.specs.declared.Context.{Context}
 use Rattle.standard.specs.declared.Context.the-variants.{Text, Attribute}
 use Rattle.standard.specs.declared.characters.CharRead.{CharRead}
 use Rattle.standard.specs.declared.characters.CharRead.the-variants.{Char, Incomplete, Illformed, End}
-use Rattle.standard.specs.Notation.{if_then_else_}
 use Rattle.standard.specs.Utf8.{readChar, octets, encode}
 use Rattle.standard.specs.Answers.{done, ill-formed, nul, room-used-up, context-end}
 use Rattle.standard.specs.NameList.{builtin}
 use Rattle.standard.specs.Reading.{callsFor, Reading, _⊕_}
 use Rattle.standard.specs.Contexts.{refused, ends}
-use Rattle.standard.proofs.Choice.{if-both}
-use Rattle.standard.proofs.Puts.{⊕-none}
+use Rattle.standard.proofs.Joining.{⊕-none}
 use Rattle.standard.proofs.Ascii.{read-ascii}
 use Rattle.standard.proofs.RoundTrip.{encode-short}
 use Rattle.standard.proofs.Utf8.{end-length}

@@ -8,13 +8,13 @@ use mathlib.Core.Logic.{_⊎_, inl, inr, ⊎-elim}
 use native.Mathlib.Omega.{arith}
 use lib.ListN.{length}
 use lib.Seq.{sets}
+use Rattle.lists.proofs.Choice.{below?}
+use Rattle.lists.proofs.Layings.{Laying}
 use Rattle.standard.specs.declared.Context.{Context}
 use Rattle.standard.specs.Answers.{done, ill-formed, nul, too-long, context-end, room-asked}
 use Rattle.standard.specs.Errors.{numbers}
 use Rattle.standard.specs.NameList.{builtin}
 use Rattle.standard.specs.Reading.{stopOf, covered, Reading, reading, decode}
-use Rattle.standard.proofs.Choice.{below?}
-use Rattle.standard.proofs.Puts.{Laying}
 use Rattle.decoder.specs.declared.whole.Decoded.{Decoded}
 use Rattle.decoder.specs.Whole.{decoded, answerOf, textNamed, placeNamed, DecodesBy}
 use Rattle.decoder.proofs.Answering.{writtenWith, answer-says, answer-is, answers-too-long, answers-asked, stops-so, answered-for, stopped-for}

@@ -9,10 +9,10 @@ use native.Mathlib.Omega.{arith}
 use lib.Dec.{eqb}
 use lib.ListN.{getD}
 use borrow.Author.Tests.{ne-eqb, eqb-true, eqb-false}
+use Rattle.lists.specs.Notation.{between}
+use Rattle.lists.proofs.Choice.{if-both, no-way, between-true, test?}
 use Rattle.standard.specs.declared.characters.CharRead.the-variants.{Char}
-use Rattle.standard.specs.Notation.{between}
 use Rattle.standard.specs.Utf8.{tails, afterLead, readChar}
-use Rattle.standard.proofs.Choice.{if-both, no-way, between-true, test?}
 use Rattle.standard.proofs.Utf8.{whole, if-char}
 use Rattle.standard.proofs.Ascii.{read-ascii}
 use Rattle.escaper.specs.declared.Mode.{Mode}

@@ -7,11 +7,11 @@ use mathlib.Core.Bool.{_&&_}
 use native.Mathlib.Omega.{arith}
 use lib.Dec.{eqb}
 use lib.ListN.{length, take, length-append, length-take}
+use Rattle.lists.proofs.Choice.{if-both}
 use Rattle.standard.specs.declared.characters.CharRead.{CharRead}
 use Rattle.standard.specs.declared.characters.CharRead.the-variants.{Char, Incomplete, Illformed, End}
 use Rattle.standard.specs.Utf8.{readChar}
 use Rattle.standard.specs.Reading.{sizeOf}
-use Rattle.standard.proofs.Choice.{if-both}
 use Rattle.standard.proofs.Computing.{computing}
 use Rattle.standard.proofs.Utf8.{read-length}
 use Rattle.escaper.specs.declared.Mode.{Mode}

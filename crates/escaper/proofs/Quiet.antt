@@ -9,10 +9,10 @@ use native.Mathlib.Numerals.{sub-one}
 use lib.Dec.{ltb, eqb}
 use lib.ListN.{getD, take, drop}
 use borrow.Author.Tests.{ne-eqb}
+use Rattle.lists.specs.Notation.{every}
+use Rattle.lists.proofs.Choice.{if-both, no-way}
 use Rattle.standard.specs.declared.characters.CharRead.the-variants.{Char}
-use Rattle.standard.specs.Notation.{every}
 use Rattle.standard.specs.Utf8.{readChar, octets}
-use Rattle.standard.proofs.Choice.{if-both, no-way}
 use Rattle.standard.proofs.Utf8.{read-length}
 use Rattle.standard.proofs.RoundTrip.{encode-octets}
 use Rattle.standard.proofs.Back.{read-back}

@@ -7,13 +7,13 @@ use native.Mathlib.Omega.{arith}
 use lib.ListN.{length, getD, take, drop, length-drop, drop-of-length-le}
 use lib.Seq.{take-all, drop-drop}
 use borrow.Author.Tests.{ltb-true}
+use Rattle.lists.specs.Notation.{front}
+use Rattle.lists.proofs.Fronts.{front-goes-on, front-length}
 use Rattle.standard.specs.declared.characters.CharRead.{CharRead}
 use Rattle.standard.specs.declared.characters.CharRead.the-variants.{Char, Incomplete, Illformed, End}
-use Rattle.standard.specs.Notation.{front}
 use Rattle.standard.specs.Utf8.{readChar}
 use Rattle.standard.specs.Answers.{done, ill-formed}
 use Rattle.standard.specs.Reading.{answerTo, Stop, stops, stopFrom}
-use Rattle.standard.proofs.Fronts.{front-goes-on, front-length}
 use Rattle.standard.proofs.Utf8.{read-length, end-length}
 use Rattle.standard.proofs.Stops.{stop-unfold}
 use Rattle.standard.proofs.Ascii.{stop-run}

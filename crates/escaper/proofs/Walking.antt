@@ -7,14 +7,14 @@ use native.Mathlib.Omega.{arith}
 use lib.Dec.{eqb}
 use lib.ListN.{length, getD, take, drop, length-drop}
 use lib.Seq.{take-nil, drop-drop, getD-drop}
+use Rattle.lists.specs.Notation.{if_then_else_, front, every}
+use Rattle.lists.proofs.Choice.{if-both, and-true}
+use Rattle.lists.proofs.Fronts.{front-is-take, front-length}
 use Rattle.standard.specs.declared.characters.CharRead.{CharRead}
 use Rattle.standard.specs.declared.characters.CharRead.the-variants.{Char, Incomplete, Illformed, End}
-use Rattle.standard.specs.Notation.{if_then_else_, front, every}
 use Rattle.standard.specs.Utf8.{readChar}
 use Rattle.standard.specs.Answers.{done}
 use Rattle.standard.specs.Reading.{answerTo, sizeOf, Stop, stops, stopFrom}
-use Rattle.standard.proofs.Choice.{if-both, and-true}
-use Rattle.standard.proofs.Fronts.{front-is-take, front-length}
 use Rattle.standard.proofs.Utf8.{read-length, end-length, whole}
 use Rattle.standard.proofs.Skips.{drop-pred, skip-drops}
 use Rattle.escaper.specs.declared.Mode.{Mode}

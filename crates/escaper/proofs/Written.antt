@@ -5,9 +5,9 @@ use mathlib.Core.List.{List}
 use native.Mathlib.Omega.{arith}
 use lib.ListN.{length, take, drop, length-append, drop-of-length-le}
 use lib.Seq.{sets}
+use Rattle.lists.specs.Rooms.{Put}
+use Rattle.lists.proofs.Puts.{sets-append, put-length}
 use Rattle.standard.specs.Answers.{done}
-use Rattle.standard.specs.Rooms.{Put}
-use Rattle.standard.proofs.Puts.{sets-append, put-length}
 use Rattle.rooms.proofs.Fits.{copy-fits}
 use Rattle.escaper.specs.declared.Mode.{Mode}
 use Rattle.escaper.specs.Escape.{escapeFrom, escape, stopOf}

@@ -7,9 +7,9 @@ use mathlib.Core.Bool.{Bool, true, false, _&&_}
 use lib.Dec.{ltb, eqb}
 use lib.ListN.{length, take}
 use lib.Seq.{sets}
+use Rattle.lists.specs.Notation.{if_then_else_}
 use Rattle.standard.specs.declared.characters.CharRead.{CharRead}
 use Rattle.standard.specs.declared.characters.CharRead.the-variants.{Char, Incomplete, Illformed, End}
-use Rattle.standard.specs.Notation.{if_then_else_}
 use Rattle.standard.specs.Utf8.{readChar, bytes}
 use Rattle.standard.specs.Answers.{done, ill-formed, too-long, room-asked, longest-slice}
 use Rattle.standard.specs.Reading.{sizeOf, Stop, stopFrom}

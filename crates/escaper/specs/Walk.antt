@@ -4,7 +4,7 @@ use Prim.Native.Char.{code}
 use mathlib.Core.List.{List}
 use mathlib.Core.Bool.{Bool, not, _&&_}
 use lib.Dec.{ltb, eqb}
-use Rattle.standard.specs.Notation.{if_then_else_}
+use Rattle.lists.specs.Notation.{if_then_else_}
 use Rattle.standard.specs.Utf8.{bytes}
 use Rattle.escaper.specs.declared.Mode.{Mode}
 use Rattle.escaper.specs.declared.specials.Special.{Special}

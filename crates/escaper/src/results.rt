@@ -2,8 +2,8 @@
 ghost use mathlib.Core.Path.{_≡_};
 ghost use Prim.Native.Nat.{_≤_};
 ghost use lib.ListN.{length};
+ghost use Rattle.lists.specs.Rooms.{Put};
 ghost use Rattle.standard.specs.Answers.{done};
-ghost use Rattle.standard.specs.Rooms.{Put};
 ghost use Rattle.escaper.specs.Escape.{escape, stopOf};
 use crate::Mode;
 use crate::runs;

@@ -2,8 +2,8 @@
 ghost use mathlib.Core.Path.{_≡_};
 ghost use Prim.Native.Nat.{_≤_, _+_};
 ghost use lib.ListN.{length, take, drop};
-ghost use Rattle.standard.specs.Notation.{front, every};
-ghost use Rattle.standard.proofs.Fronts.{Skipping};
+ghost use Rattle.lists.specs.Notation.{front, every};
+ghost use Rattle.lists.proofs.Fronts.{Skipping};
 ghost use Rattle.escaper.specs.Walk.{quoteOf, quiet};
 use crate::Mode;
 

@@ -2,7 +2,7 @@
 ghost use mathlib.Core.Path.{_≡_};
 ghost use Prim.Native.Nat.{_<_, _+_, _-_};
 ghost use lib.ListN.{length, getD, take};
-ghost use Rattle.standard.specs.Rooms.{Put};
+ghost use Rattle.lists.specs.Rooms.{Put};
 ghost use Rattle.escaper.specs.Walk.{specialOf, sourceLength, textOf};
 
 // A character that is replaced, or another one of two bytes.

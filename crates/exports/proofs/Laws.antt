@@ -6,9 +6,9 @@ use native.Mathlib.Omega.{arith}
 use lib.ListN.{length, drop-of-length-le}
 use lib.Seq.{sets, sets-eq}
 use borrow.Author.Tests.{eq-eqb, ne-eqb}
+use Rattle.lists.specs.Bytes.{fours}
 use Rattle.standard.specs.declared.Context.{Context}
 use Rattle.standard.specs.NameList.{builtin}
-use Rattle.standard.specs.Rooms.{fours}
 use Rattle.decoder.specs.declared.whole.Decoded.{Decoded}
 use Rattle.decoder.specs.Whole.{DecodesBytes}
 use Rattle.escaper.specs.declared.Mode.{Mode}

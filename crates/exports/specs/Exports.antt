@@ -6,17 +6,16 @@ use mathlib.Core.Option.{Option, some, none}
 use lib.Dec.{eqb}
 use lib.ListN.{length}
 use lib.Seq.{sets}
+use Rattle.lists.specs.Notation.{if_then_else_}
+use Rattle.lists.specs.Bytes.{fours}
 use Rattle.standard.specs.declared.Context.{Context}
 use Rattle.standard.specs.declared.Context.the-variants.{Text, Attribute}
-use Rattle.standard.specs.Notation.{if_then_else_}
 use Rattle.standard.specs.Answers.{no-room}
 use Rattle.standard.specs.Errors.{numbers}
 use Rattle.standard.specs.NameList.{builtin}
 use Rattle.standard.specs.Reading.{Reading}
-use Rattle.standard.specs.Rooms.{fours}
 use Rattle.decoder.specs.declared.whole.Decoded.{Decoded}
-use Rattle.decoder.specs.Whole.{decodedOf}
-use Rattle.decoder.specs.Whole.{writtenOf as readOf}
+use Rattle.decoder.specs.Whole.{decodedOf, writtenOf as readOf}
 use Rattle.escaper.specs.declared.Mode.{Mode}
 use Rattle.escaper.specs.declared.Mode.the-variants as mode
 use Rattle.escaper.specs.declared.Escaped.{Escaped}

@@ -3,7 +3,7 @@ ghost use mathlib.Core.Path.{_≡_};
 ghost use mathlib.Core.List.{_∷_, []};
 ghost use lib.ListN.{length};
 ghost use lib.Seq.{sets};
-ghost use Rattle.standard.specs.Rooms.{fours};
+ghost use Rattle.lists.specs.Bytes.{fours};
 ghost use Rattle.exports.specs.Exports.{contextOf, modeOf, asked, decodes, escapes, checks, Gives};
 use escaper::Mode;
 use standard::Context;

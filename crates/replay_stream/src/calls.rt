@@ -1,5 +1,4 @@
 // Calls: rooms are marked and lent, and what a call hands back goes into a sum and, where it is shown, into a line.
-ghost use Prim.Native.Nat.{_≤_};
 use crate::lines::Lines;
 use crate::lines::put_bar;
 use crate::lines::put_byte;

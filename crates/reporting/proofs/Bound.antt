@@ -1,5 +1,5 @@
 -- A report is no longer than the room that is asked for, and never empty.
-use Prim.Native.Nat.{ℕ, _+_, _*_, _≤_, _<_}
+use Prim.Native.Nat.{ℕ, _*_, _≤_, _<_}
 use Prim.Native.Char.{code}
 use mathlib.Core.List.{List, [], _∷_, _++_}
 use mathlib.Core.Logic.{inl, inr}
@@ -7,6 +7,9 @@ use native.Mathlib.Omega.{arith}
 use lib.Dec.{ltb, leb, eqb}
 use lib.ListN.{length, drop, length-append, length-take}
 use borrow.Author.Tests.{ltb-false, leb-true}
+use Rattle.lists.proofs.Choice.{if-both, and-true}
+use Rattle.lists.proofs.Every.{All}
+use Rattle.lists.proofs.Puts.{put-length}
 use Rattle.standard.specs.declared.Context.{Context}
 use Rattle.standard.specs.declared.Context.the-variants.{Text, Attribute}
 use Rattle.standard.specs.Utf8.{bytes}
@@ -16,10 +19,7 @@ use Rattle.standard.specs.Names.{stands}
 use Rattle.standard.specs.NameList.{builtin}
 use Rattle.standard.specs.Reading.{Stop, stopOf, covered, readable, Reading, decode}
 use Rattle.standard.proofs.Bounds.{text-fits, errors-fit}
-use Rattle.standard.proofs.Choice.{if-both, and-true}
 use Rattle.standard.proofs.Computing.{computing-parts}
-use Rattle.standard.proofs.Every.{All}
-use Rattle.standard.proofs.Puts.{put-length}
 use Rattle.standard.proofs.Narrow.{builtin-narrow}
 use Rattle.standard.proofs.Stops.{stop-place, OneOf, stops-with}
 use Rattle.reporting.specs.Report.{

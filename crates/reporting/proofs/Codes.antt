@@ -6,11 +6,13 @@ use mathlib.Core.Bool.{Bool, true, false, _&&_, _||_}
 use native.Mathlib.Omega.{arith}
 use lib.Dec.{ltb, eqb}
 use lib.ListN.{length, getD, drop, length-drop}
+use Rattle.lists.specs.Notation.{between, next, nextIs, front}
+use Rattle.lists.proofs.Choice.{if-both}
+use Rattle.lists.proofs.Every.{All}
 use Rattle.standard.specs.declared.Context.{Context}
 use Rattle.standard.specs.declared.characters.CharRead.{CharRead}
 use Rattle.standard.specs.declared.characters.CharRead.the-variants.{Char, Incomplete, Illformed, End}
 use Rattle.standard.specs.declared.names.Found.{Found}
-use Rattle.standard.specs.Notation.{between, next, nextIs, front}
 use Rattle.standard.specs.Utf8.{readChar}
 use Rattle.standard.specs.Errors.{no-error, listed, Error, placed}
 use Rattle.standard.specs.Contexts.{inAttribute}
@@ -19,8 +21,6 @@ use Rattle.standard.specs.Numbers.{isDigit, number, Meaning, meaningOf}
 use Rattle.standard.specs.Names.{Name, longest}
 use Rattle.standard.specs.Pieces.{Piece, character, numbered, digitsThen, digitsAt, numeric, unknownName, namedBy, reference, pieceAt}
 use Rattle.standard.specs.Reading.{joined, decode}
-use Rattle.standard.proofs.Choice.{if-both}
-use Rattle.standard.proofs.Every.{All}
 use Rattle.standard.proofs.Lists.{noncharacters, withError, characters, meaningListed, meanings}
 use Rattle.standard.proofs.PieceSize.{piece-size}
 use Rattle.standard.proofs.Bounds.{pieces-induction}

@@ -7,8 +7,8 @@ use mathlib.Core.Logic.{⊎-elim}
 use native.Mathlib.Omega.{arith}
 use lib.ListN.{length, getD, length-append, List·getD-append}
 use borrow.Author.Tests.{lt-ltb, le-ltb}
+use Rattle.lists.proofs.Choice.{below?, inside-between}
 use Rattle.standard.specs.Numbers.{digitOf, numberFrom, number}
-use Rattle.standard.proofs.Choice.{below?, inside-between}
 use Rattle.reporting.specs.Report.{digit, decimalBy, decimal}
 
 -- A number has the same digits however many it may have at most.

@@ -7,13 +7,13 @@ use mathlib.Core.Bool.{Bool, true, false, _&&_}
 use lib.Dec.{leb}
 use lib.ListN.{length, drop}
 use borrow.Author.Tests.{lt-ltb, le-ltb, le-leb, lt-leb}
+use Rattle.lists.specs.Rooms.{Put}
+use Rattle.lists.proofs.Puts.{put-none}
 use Rattle.standard.specs.declared.Context.{Context}
 use Rattle.standard.specs.declared.Context.the-variants.{Text, Attribute}
 use Rattle.standard.specs.Utf8.{bytes}
 use Rattle.standard.specs.Errors.{numbers}
-use Rattle.standard.specs.Rooms.{Put}
 use Rattle.standard.proofs.Computing.{computing-parts}
-use Rattle.standard.proofs.Puts.{put-none}
 use Rattle.reporting.specs.Report.{
   line,
   sourceReport,

@@ -7,11 +7,11 @@ use native.Mathlib.Omega.{arith}
 use lib.ListN.{length, take, drop, length-take}
 use lib.Seq.{take-all}
 use borrow.Author.Tests.{lt-ltb}
+use Rattle.lists.proofs.Choice.{below?}
 use Rattle.standard.specs.declared.Context.{Context}
 use Rattle.standard.specs.declared.Context.the-variants.{Text, Attribute}
 use Rattle.standard.specs.Utf8.{bytes}
 use Rattle.standard.specs.Names.{stands}
-use Rattle.standard.proofs.Choice.{below?}
 use Rattle.standard.proofs.Computing.{computing-parts}
 use Rattle.reporting.specs.Report.{line, sourceReport, forSource, forInput, reportOf, input-room}
 

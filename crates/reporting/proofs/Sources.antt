@@ -8,15 +8,16 @@ use mathlib.Core.Logic.{inl, inr}
 use native.Mathlib.Omega.{arith}
 use lib.ListN.{length, take, drop, length-take, length-append}
 use lib.Seq.{sets, sets-eq, take-at, length-sets}
+use Rattle.lists.specs.Rooms.{Put}
+use Rattle.lists.proofs.Puts.{put-join, put-length}
 use Rattle.standard.specs.declared.Context.{Context}
 use Rattle.standard.specs.Utf8.{bytes}
 use Rattle.standard.specs.Answers.{done, context-end}
 use Rattle.standard.specs.Errors.{numbers}
 use Rattle.standard.specs.NameList.{builtin}
 use Rattle.standard.specs.Reading.{stopOf, covered, readable, Reading, decode}
-use Rattle.standard.specs.Rooms.{Put}
 use Rattle.standard.proofs.Bounds.{errors-fit}
-use Rattle.standard.proofs.Puts.{put-join, put-length, numbers-length}
+use Rattle.standard.proofs.Joining.{numbers-length}
 use Rattle.standard.proofs.Stops.{stop-place, OneOf, stops-with}
 use Rattle.decoder.specs.declared.whole.Decoded.{Decoded}
 use Rattle.decoder.specs.Whole.{answerOf, Decodes}

@@ -7,8 +7,8 @@ use native.Mathlib.Omega.{arith}
 use lib.Dec.{eqb}
 use lib.ListN.{length, getD}
 use borrow.Author.Tests.{eq-eqb, ne-eqb, eqb-true, eqb-false}
+use Rattle.lists.proofs.Choice.{no-way}
 use Rattle.standard.specs.Names.{stands}
-use Rattle.standard.proofs.Choice.{no-way}
 
 -- A letter and LF.
 abbrev pub Starts : ℕ → List ℕ → Bool

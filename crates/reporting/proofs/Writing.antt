@@ -5,8 +5,8 @@ use mathlib.Core.List.{List, [], _∷_, _++_}
 use native.Mathlib.Omega.{arith}
 use lib.ListN.{length, length-append}
 use lib.Seq.{sets}
-use Rattle.standard.specs.Rooms.{Put}
-use Rattle.standard.proofs.Puts.{sets-append, put-length, put-join}
+use Rattle.lists.specs.Rooms.{Put}
+use Rattle.lists.proofs.Puts.{sets-append, put-length, put-join}
 use Rattle.reporting.specs.Report.{digit, decimal}
 use Rattle.reporting.proofs.Decimals.{decimal-one, decimal-more}
 

@@ -5,8 +5,8 @@ use mathlib.Core.Path.{_≡_}
 use mathlib.Core.List.{List, [], _∷_, _++_}
 use lib.ListN.{length}
 use lib.Seq.{sets}
+use Rattle.lists.specs.Rooms.{Put}
 use Rattle.standard.specs.Errors.{Error, numbers}
-use Rattle.standard.specs.Rooms.{Put}
 use Rattle.reporting.specs.Report.{decimal, pair, line, report-room, numbers-room}
 
 -- A line for each two numbers.

@@ -7,16 +7,16 @@ use mathlib.Core.Bool.{Bool, _&&_}
 use lib.Dec.{ltb, leb, eqb}
 use lib.ListN.{length, drop}
 use lib.Seq.{sets}
+use Rattle.lists.specs.Notation.{if_then_else_}
+use Rattle.lists.specs.Rooms.{Put}
 use Rattle.standard.specs.declared.Context.{Context}
 use Rattle.standard.specs.declared.Context.the-variants.{Text, Attribute}
-use Rattle.standard.specs.Notation.{if_then_else_}
 use Rattle.standard.specs.Utf8.{bytes}
 use Rattle.standard.specs.Answers.{done, context-end}
 use Rattle.standard.specs.Errors.{Error, numbers}
 use Rattle.standard.specs.Names.{stands}
 use Rattle.standard.specs.NameList.{builtin}
 use Rattle.standard.specs.Reading.{Stop, stopOf, covered, readable, Reading, decode}
-use Rattle.standard.specs.Rooms.{Put}
 use Rattle.decoder.specs.Whole.{errorRoom}
 
 -- A digit in ASCII.

@@ -3,10 +3,9 @@ ghost use mathlib.Core.Path.{_≡_};
 ghost use mathlib.Core.List.{_∷_, [], _++_};
 ghost use Prim.Native.Nat.{_+_, _≤_, _<_};
 ghost use lib.ListN.{length};
-ghost use Rattle.standard.specs.Rooms.{Put};
+ghost use Rattle.lists.specs.Rooms.{Put};
 ghost use Rattle.standard.specs.Utf8.{bytes};
-ghost use Rattle.reporting.specs.Report.{decimal, pair, line};
-ghost use Rattle.reporting.specs.Report.{digit as digitOf};
+ghost use Rattle.reporting.specs.Report.{decimal, pair, line, digit as digitOf};
 ghost use Rattle.reporting.specs.Lines.{pairLines, afterText};
 
 // A digit in ASCII.

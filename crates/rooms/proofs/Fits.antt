@@ -4,7 +4,8 @@ use mathlib.Core.List.{List}
 use native.Mathlib.Omega.{arith}
 use lib.ListN.{length, take}
 use lib.Seq.{take-all}
-use Rattle.standard.specs.Rooms.{Put, fours}
+use Rattle.lists.specs.Bytes.{fours}
+use Rattle.lists.specs.Rooms.{Put}
 
 -- What `copy` writes of bytes that fit is all of them.
 pub copy-fits : {old from new : List ℕ} {at next : ℕ} → at + length from ≤ length old → Put old at (take (length old - at) from) new next

@@ -8,10 +8,11 @@ use native.Mathlib.Numerals.{add-one}
 use native.Mathlib.Omega.{arith}
 use lib.ListN.{length, getD, take, drop, set, length-set}
 use lib.Seq.{sets, take-all, take-add, take-suc}
-use Rattle.standard.specs.Names.{fourBytes}
-use Rattle.standard.specs.Rooms.{Put, fours}
-use Rattle.standard.proofs.Choice.{below?}
-use Rattle.standard.proofs.Puts.{sets-drop, sets-done, put-join, laid-fours}
+use Rattle.lists.specs.Bytes.{fourBytes, fours}
+use Rattle.lists.specs.Rooms.{Put}
+use Rattle.lists.proofs.Choice.{below?}
+use Rattle.lists.proofs.Puts.{sets-drop, sets-done, put-join}
+use Rattle.lists.proofs.Layings.{laid-fours}
 
 -- With the values from i on the room will hold what it would with them all.
 pub record Putting (old values : List ℕ) (at : ℕ) (new : List ℕ) (i : ℕ) : Type 0 where

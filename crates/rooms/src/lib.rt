@@ -2,8 +2,8 @@
 ghost use mathlib.Core.Path.{_≡_};
 ghost use Prim.Native.Nat.{_≤_, _+_, _-_, _/_, min};
 ghost use lib.ListN.{length, take, drop};
-ghost use Rattle.standard.specs.Names.{fourBytes};
-ghost use Rattle.standard.specs.Rooms.{Put, fours};
+ghost use Rattle.lists.specs.Bytes.{fourBytes, fours};
+ghost use Rattle.lists.specs.Rooms.{Put};
 
 // The lesser of two numbers.
 fn least(a: usize, b: usize) -> usize

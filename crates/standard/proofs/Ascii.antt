@@ -9,19 +9,19 @@ use native.Mathlib.Omega.{arith}
 use lib.Dec.{eqb}
 use lib.ListN.{length, drop}
 use borrow.Author.Tests.{lt-ltb, eq-eqb, eqb-true, not-true}
+use Rattle.lists.specs.Notation.{between, front}
+use Rattle.lists.proofs.Choice.{and-true, between-true}
+use Rattle.lists.proofs.Fronts.{front-induction}
 use Rattle.standard.specs.declared.Context.{Context}
 use Rattle.standard.specs.declared.characters.CharRead.the-variants.{Char}
-use Rattle.standard.specs.Notation.{between, front}
 use Rattle.standard.specs.Utf8.{tails, afterLead, readChar}
 use Rattle.standard.specs.Errors.{no-error, placed}
 use Rattle.standard.specs.Classes.{characterCode}
 use Rattle.standard.specs.Answers.{done}
 use Rattle.standard.specs.Names.{Name}
 use Rattle.standard.specs.Pieces.{piece, pieceAt}
-use Rattle.standard.proofs.Choice.{and-true, between-true}
 use Rattle.standard.proofs.Computing.{computing}
 use Rattle.standard.proofs.Lists.{below, below-at}
-use Rattle.standard.proofs.Fronts.{front-induction}
 use Rattle.standard.specs.Reading.{stopFrom, piecesFrom, pieces, Reading, reading, _⊕_, joined}
 
 -- An ASCII byte is a character of its own.

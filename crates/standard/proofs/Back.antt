@@ -5,12 +5,12 @@ use mathlib.Core.List.{List, [], _∷_}
 use mathlib.Core.Bool.{true}
 use native.Mathlib.Omega.{arith}
 use lib.ListN.{take}
-use Rattle.standard.specs.Notation.{between}
+use Rattle.lists.specs.Notation.{between}
+use Rattle.lists.proofs.Choice.{between-true}
 use Rattle.standard.specs.declared.characters.CharRead.the-variants.{Char}
 use Rattle.standard.specs.declared.characters.Lead.{Lead}
 use Rattle.standard.specs.declared.characters.Lead.the-variants.{Bad, Good}
 use Rattle.standard.specs.Utf8.{leadOf, tails, afterLead, readChar, scalar, octets, encode}
-use Rattle.standard.proofs.Choice.{between-true}
 use Rattle.standard.proofs.Utf8.{upper, Next, Fits, lead-fits, if-char, whole}
 use Rattle.standard.proofs.RoundTrip.{sixes, octets-sixes, size-scalar, encode-octets}
 

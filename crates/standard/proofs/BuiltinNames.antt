@@ -6,7 +6,7 @@ use mathlib.Core.List.{List, [], _∷_, _++_}
 use mathlib.Core.Bool.{Bool, true, false, not, _||_, _&&_}
 use lib.Dec.{ltb, eqb}
 use lib.ListN.{length}
-use Rattle.standard.specs.Notation.{if_then_else_, every}
+use Rattle.lists.specs.Notation.{if_then_else_, every}
 use Rattle.standard.specs.Classes.{alphanumeric}
 use Rattle.standard.specs.Utf8.{bytes}
 use Rattle.standard.specs.Names.{Name, stands, records, tableOf}

@@ -1,5 +1,5 @@
 -- For facts that are computed: `unfolding computing` opens every definition of specs/.
-use Rattle.standard.specs.Notation.{front}
+use Rattle.lists.specs.Notation.{front}
 use Rattle.standard.specs.Utf8.{octets, encode, bytes, tails, afterLead, readChar}
 use Rattle.standard.specs.Errors.{placed}
 use Rattle.standard.specs.Classes.{characterCode}

@@ -7,11 +7,11 @@ use native.Mathlib.Omega.{arith}
 use lib.Dec.{eqb}
 use lib.ListN.{length, getD, drop}
 use borrow.Author.Tests.{lt-ltb, le-ltb, ne-eqb}
-use Rattle.standard.specs.Notation.{if_then_else_, next, front}
+use Rattle.lists.specs.Notation.{if_then_else_, next, front}
+use Rattle.lists.proofs.Fronts.{front-none, front-stops, front-goes-on}
 use Rattle.standard.specs.Errors.{absence-of-digits-in-numeric-character-reference}
 use Rattle.standard.specs.Numbers.{digitOf, isDigit, numberFrom, number, meaningOf}
 use Rattle.standard.specs.Pieces.{ampersand, numbered, digitsThen, digitsAt}
-use Rattle.standard.proofs.Fronts.{front-none, front-stops, front-goes-on}
 use Rattle.standard.proofs.Stopped.{number-stopped}
 
 -- What is read of the digits from a place on, after a number: the place after them, and the number with them, stopped.

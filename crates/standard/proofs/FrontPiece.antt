@@ -10,9 +10,11 @@ use lib.Dec.{ltb, eqb}
 use lib.ListN.{length, getD, drop, length-drop}
 use lib.Seq.{drop-drop}
 use borrow.Author.Tests.{eq-eqb, ne-eqb}
+use Rattle.lists.specs.Notation.{if_then_else_, next, front}
+use Rattle.lists.proofs.Fronts.{front-length}
+use Rattle.lists.proofs.Nexts.{next-front}
 use Rattle.standard.specs.declared.Context.{Context}
 use Rattle.standard.specs.declared.names.Found.{Found}
-use Rattle.standard.specs.Notation.{if_then_else_, next, front}
 use Rattle.standard.specs.Utf8.{readChar}
 use Rattle.standard.specs.Classes.{alphanumeric}
 use Rattle.standard.specs.Numbers.{isDigit, number, meaningOf}
@@ -30,8 +32,6 @@ use Rattle.standard.specs.Pieces.{
   reference,
   pieceAt,
 }
-use Rattle.standard.proofs.Fronts.{front-length}
-use Rattle.standard.proofs.Nexts.{next-front}
 use Rattle.standard.proofs.Digits.{digits-by-length}
 use Rattle.standard.proofs.Stopped.{meaning-stopped}
 use Rattle.standard.proofs.Narrow.{longest-fits}

@@ -1,11 +1,5 @@
-pub mod Choice
-pub mod Tests
-pub mod Every
 pub mod Computing
-pub mod Fronts
-pub mod Nexts
-pub mod Blocks
-pub mod Puts
+pub mod Joining
 pub mod Lists
 pub mod Replaced
 pub mod Meanings

@@ -3,16 +3,16 @@ use Prim.Native.Nat.{ℕ, zero, suc, _%_, _≤_, _<_}
 use mathlib.Core.Path.{_≡_, refl, _∙_, ap}
 use mathlib.Core.List.{List, [], _∷_, _++_}
 use mathlib.Core.Bool.{Bool, true, false, _||_, _&&_, and-eq-true-iff}
-use mathlib.Core.Logic.{_⊎_, inr, ⊎-elim}
+use mathlib.Core.Logic.{inr, ⊎-elim}
 use native.Mathlib.Omega.{arith}
 use lib.Dec.{ltb, eqb}
 use lib.ListN.{take, drop}
 use borrow.Author.Tests.{ne-eqb, eqb-true, eqb-false}
-use Rattle.standard.specs.Notation.{if_then_else_, between}
+use Rattle.lists.specs.Notation.{if_then_else_, between}
+use Rattle.lists.proofs.Choice.{below?, outside-between}
 use Rattle.standard.specs.Utf8.{bytes}
 use Rattle.standard.specs.Classes.{characterCode}
 use Rattle.standard.specs.Numbers.{number, replacements, replacedBy, Meaning, means, meaningOf}
-use Rattle.standard.proofs.Choice.{below?, outside-between}
 use Rattle.standard.proofs.Computing.{computing}
 
 -- 'Each value whose low 16 bits are FFFE or FFFF', with FDD0-FDEF.

@@ -8,9 +8,9 @@ use mathlib.Core.Bool.{true, _&&_}
 use native.Mathlib.Omega.{arith}
 use lib.Dec.{ltb}
 use lib.ListN.{length}
+use Rattle.lists.proofs.Choice.{facts, if-both, and-true}
 use Rattle.standard.specs.declared.names.Found.{Found}
 use Rattle.standard.specs.Names.{Name, stands, nothing, foundAs, longer, longestFrom, longest}
-use Rattle.standard.proofs.Choice.{facts, if-both, and-true}
 use Rattle.standard.proofs.Narrow.{longest-cases}
 
 -- The longer one is not shorter than what was found, nor than the name where that stands there.

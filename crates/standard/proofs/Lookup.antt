@@ -10,9 +10,10 @@ use lib.Dec.{ltb}
 use lib.ListN.{length, getD, take, drop, length-take, length-drop, drop-of-length-le}
 use lib.Seq.{drop-cons, drop-drop, getD-drop}
 use borrow.Author.Tests.{lt-ltb, le-ltb, le-leb, lt-leb, eq-eqb, ne-eqb}
+use Rattle.lists.specs.Bytes.{word32}
 use Rattle.standard.proofs.Skips.{records-unfold}
 use Rattle.standard.specs.declared.names.Found.{Found}
-use Rattle.standard.specs.Names.{Name, stands, charRef, longer, longestFrom, begins, word32, recordAt, recordsFrom, records}
+use Rattle.standard.specs.Names.{Name, stands, charRef, longer, longestFrom, begins, recordAt, recordsFrom, records}
 
 -- A word and what it should stand at the front of, both from i on: the word is used up, the bytes are, they differ, they agree.
 module _ (w s : List ℕ) (i : ℕ) where

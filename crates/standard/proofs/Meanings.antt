@@ -6,10 +6,10 @@ use mathlib.Core.Logic.{⊎-map}
 use native.Mathlib.Omega.{arith}
 use lib.Dec.{eqb}
 use borrow.Author.Tests.{lt-ltb, le-ltb, ne-eqb}
-use Rattle.standard.specs.Notation.{if_then_else_}
+use Rattle.lists.specs.Notation.{if_then_else_}
+use Rattle.lists.proofs.Choice.{below?, inside-between, outside-between}
 use Rattle.standard.specs.Classes.{noncharacter, whitespace, control}
 use Rattle.standard.specs.Numbers.{replacements, replacedBy, means, meaningOf}
-use Rattle.standard.proofs.Choice.{below?, inside-between, outside-between}
 
 -- What lies past the last code point means U+FFFD.
 pub meaning-outside : (n : ℕ) → 0x10FFFF < n → meaningOf n ≡ means 0xFFFD 3

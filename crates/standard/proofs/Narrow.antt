@@ -7,14 +7,14 @@ use native.Mathlib.Omega.{arith}
 use lib.Dec.{ltb, leb, eqb}
 use lib.ListN.{length}
 use borrow.Author.Tests.{ltb-true, leb-true}
+use Rattle.lists.specs.Notation.{every}
+use Rattle.lists.proofs.Choice.{if-both, no-way}
+use Rattle.lists.proofs.Every.{All, every-all, all-member}
 use Rattle.standard.specs.declared.names.Found.{Found}
-use Rattle.standard.specs.Notation.{every}
 use Rattle.standard.specs.Utf8.{octets, encode, bytes}
 use Rattle.standard.specs.Names.{Name, stands, charRef, nothing, foundAs, longer, longestFrom, longest}
 use Rattle.standard.specs.NameList.{builtin}
 use Rattle.standard.specs.Pieces.{encodes, charRefText}
-use Rattle.standard.proofs.Choice.{if-both, no-way}
-use Rattle.standard.proofs.Every.{All, every-all, all-member}
 
 -- A name is narrow: it is not empty, and its text is not longer than it is with its `&`.
 abbrev pub NarrowName : Name → Type 0

@@ -8,11 +8,15 @@ use native.Mathlib.Omega.{arith}
 use lib.Dec.{ltb, eqb}
 use lib.ListN.{length, getD, drop, length-take, length-drop}
 use borrow.Author.Tests.{ltb-true}
+use Rattle.lists.specs.Notation.{if_then_else_, between, next, nextIs, front}
+use Rattle.lists.proofs.Choice.{if-both}
+use Rattle.lists.proofs.Every.{All, every-all}
+use Rattle.lists.proofs.Fronts.{front-induction, front-length}
+use Rattle.lists.proofs.Nexts.{next-there}
 use Rattle.standard.specs.declared.Context.{Context}
 use Rattle.standard.specs.declared.characters.CharRead.{CharRead}
 use Rattle.standard.specs.declared.characters.CharRead.the-variants.{Char, Incomplete, Illformed, End}
 use Rattle.standard.specs.declared.names.Found.{Found}
-use Rattle.standard.specs.Notation.{if_then_else_, between, next, nextIs, front}
 use Rattle.standard.specs.Utf8.{encode, readChar}
 use Rattle.standard.specs.Errors.{
   no-error,
@@ -40,10 +44,6 @@ use Rattle.standard.specs.Pieces.{
   reference,
   pieceAt,
 }
-use Rattle.standard.proofs.Choice.{if-both}
-use Rattle.standard.proofs.Every.{All, every-all}
-use Rattle.standard.proofs.Fronts.{front-induction, front-length}
-use Rattle.standard.proofs.Nexts.{next-there}
 use Rattle.standard.proofs.Utf8.{read-length}
 use Rattle.standard.proofs.RoundTrip.{encode-short, encode-three}
 use Rattle.standard.proofs.Lists.{noncharacters, c1-line, meaningListed, meanings}

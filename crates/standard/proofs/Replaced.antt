@@ -7,9 +7,9 @@ use mathlib.Core.Logic.{_⊎_, ⊎-elim}
 use native.Mathlib.Omega.{arith}
 use lib.ListN.{getD}
 use borrow.Author.Tests.{ne-eqb}
-use Rattle.standard.specs.Notation.{between, every}
+use Rattle.lists.specs.Notation.{between, every}
+use Rattle.lists.proofs.Choice.{between-true}
 use Rattle.standard.specs.Numbers.{replacements, replacedBy}
-use Rattle.standard.proofs.Choice.{between-true}
 
 -- The values of a function at some numbers, one after the other.
 unfoldable pub values : (ℕ → ℕ) → (count first : ℕ) → List ℕ

@@ -9,11 +9,11 @@ use native.Mathlib.Omega.{arith}
 use lib.Dec.{ltb, eqb}
 use lib.ListN.{length}
 use borrow.Author.Tests.{lt-ltb, le-ltb, eq-eqb, ne-eqb}
-use Rattle.standard.specs.Notation.{between}
+use Rattle.lists.specs.Notation.{between}
+use Rattle.lists.proofs.Choice.{facts, if-both, or-true, below?, inside-between, between-true}
 use Rattle.standard.specs.declared.characters.CharRead.the-variants.{Char}
 use Rattle.standard.specs.declared.characters.Lead.{Lead}
 use Rattle.standard.specs.Utf8.{leadOf, tails, afterLead, readChar, scalar, octets, encode, written}
-use Rattle.standard.proofs.Choice.{facts, if-both, or-true, below?, inside-between, between-true}
 use Rattle.standard.proofs.Utf8.{mark, upper, Next, Size}
 
 -- The bytes of the last groups of six bits of a number, so many.

@@ -7,8 +7,8 @@ use native.Mathlib.Numerals.{sub-one}
 use lib.Dec.{leb}
 use lib.ListN.{length, take, drop, length-drop}
 use lib.Seq.{take-all}
+use Rattle.lists.specs.Notation.{if_then_else_}
 use Rattle.standard.specs.declared.Context.{Context}
-use Rattle.standard.specs.Notation.{if_then_else_}
 use Rattle.standard.specs.Names.{Name, recordAt, recordsFrom}
 use Rattle.standard.specs.Reading.{stopFrom, piecesFrom}
 

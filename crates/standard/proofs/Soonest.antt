@@ -5,13 +5,13 @@ use mathlib.Core.List.{List, [], _∷_, _++_}
 use mathlib.Core.Logic.{⊎-elim}
 use native.Mathlib.Omega.{arith}
 use lib.ListN.{take}
-use Rattle.standard.specs.Notation.{between}
+use Rattle.lists.specs.Notation.{between}
+use Rattle.lists.proofs.Choice.{test?, inside-between}
 use Rattle.standard.specs.declared.characters.CharRead.{CharRead}
 use Rattle.standard.specs.declared.characters.CharRead.the-variants.{Char, Incomplete, Illformed}
 use Rattle.standard.specs.declared.characters.Lead.{Lead}
 use Rattle.standard.specs.declared.characters.Lead.the-variants.{Bad, Good}
 use Rattle.standard.specs.Utf8.{leadOf, tails, afterLead, readChar}
-use Rattle.standard.proofs.Choice.{test?, inside-between}
 use Rattle.standard.proofs.Utf8.{Fits, lead-fits, whole, Settled, read-append, incomplete-length, illformed-length}
 
 -- Some bytes after s make a whole character of it.

@@ -5,8 +5,8 @@ use mathlib.Core.List.{List, [], _∷_}
 use mathlib.Core.Logic.{⊎-elim}
 use native.Mathlib.Nat.{mul-zero, mul-suc}
 use native.Mathlib.Omega.{arith}
+use Rattle.lists.proofs.Choice.{below?}
 use Rattle.standard.specs.Numbers.{digitOf, numberFrom, meaningOf}
-use Rattle.standard.proofs.Choice.{below?}
 use Rattle.standard.proofs.Meanings.{meaning-outside}
 
 -- One digit more.

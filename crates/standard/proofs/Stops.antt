@@ -7,15 +7,15 @@ use native.Mathlib.Omega.{arith}
 use lib.Dec.{eqb}
 use lib.ListN.{length, drop}
 use borrow.Author.Tests.{eqb-false}
+use Rattle.lists.specs.Notation.{if_then_else_}
+use Rattle.lists.proofs.Choice.{if-both}
 use Rattle.standard.specs.declared.Context.{Context}
 use Rattle.standard.specs.declared.characters.CharRead.{CharRead}
 use Rattle.standard.specs.declared.characters.CharRead.the-variants.{Char, Incomplete, Illformed, End}
-use Rattle.standard.specs.Notation.{if_then_else_}
 use Rattle.standard.specs.Utf8.{readChar}
 use Rattle.standard.specs.Answers.{done, ill-formed, nul, context-end}
 use Rattle.standard.specs.Contexts.{ends, refused}
 use Rattle.standard.specs.Reading.{callsFor, answerTo, sizeOf, Stop, stops, stopFrom, stopOf}
-use Rattle.standard.proofs.Choice.{if-both}
 use Rattle.standard.proofs.Utf8.{read-length, end-length}
 use Rattle.standard.proofs.Skips.{drop-pred, stop-skip}
 

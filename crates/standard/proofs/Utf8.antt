@@ -9,13 +9,13 @@ use native.Mathlib.Numerals.{add-one, sub-one}
 use lib.Dec.{ltb, eqb}
 use lib.ListN.{length, getD, take, drop, drop-of-length-le}
 use lib.Seq.{drop-cons}
-use Rattle.standard.specs.Notation.{if_then_else_, between}
+use Rattle.lists.specs.Notation.{if_then_else_, between}
+use Rattle.lists.proofs.Choice.{facts, if-both, inside-between, outside-between}
 use Rattle.standard.specs.declared.characters.CharRead.{CharRead}
 use Rattle.standard.specs.declared.characters.CharRead.the-variants.{Char, Incomplete, Illformed, End}
 use Rattle.standard.specs.declared.characters.Lead.{Lead}
 use Rattle.standard.specs.declared.characters.Lead.the-variants.{Bad, Good}
 use Rattle.standard.specs.Utf8.{leadOf, tails, afterLead, readChar}
-use Rattle.standard.proofs.Choice.{facts, if-both, inside-between, outside-between}
 
 -- Where a byte is asked for and none is left, the character is incomplete.
 pub tails-incomplete : (need low high bits len : ℕ) (s : List ℕ) → 0 < need → length s ≤ len

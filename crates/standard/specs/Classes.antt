@@ -3,7 +3,7 @@ use Prim.Native.Nat.{ℕ, _%_}
 use Prim.Native.Char.{code}
 use mathlib.Core.Bool.{Bool, not, _||_, _&&_}
 use lib.Dec.{eqb}
-use Rattle.standard.specs.Notation.{if_then_else_, between}
+use Rattle.lists.specs.Notation.{if_then_else_, between}
 use Rattle.standard.specs.Errors.{no-error, control-character-in-input-stream, noncharacter-in-input-stream}
 
 -- A noncharacter.

@@ -2,7 +2,7 @@
 use Prim.Native.Nat.{ℕ}
 use mathlib.Core.List.{List, [], _∷_}
 use lib.Dec.{eqb}
-use Rattle.standard.specs.Notation.{if_then_else_}
+use Rattle.lists.specs.Notation.{if_then_else_}
 
 -- The codes; 0 stands for no error, and the others for the errors of their names.
 abbrev pub no-error : ℕ

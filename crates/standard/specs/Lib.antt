@@ -1,4 +1,3 @@
-pub mod Notation
 pub mod Utf8
 pub mod Errors
 pub mod Classes
@@ -9,4 +8,3 @@ pub mod NameList
 pub mod Answers
 pub mod Pieces
 pub mod Reading
-pub mod Rooms

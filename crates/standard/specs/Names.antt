@@ -1,10 +1,11 @@
 -- WHATWG HTML, 13.2.5.73: names, the longest one that stands at the front of some bytes, and tables of names as bytes.
-use Prim.Native.Nat.{ℕ, zero, suc, _+_, _*_, _/_, _%_}
+use Prim.Native.Nat.{ℕ, zero, suc, _+_}
 use mathlib.Core.List.{List, [], _∷_, _++_}
 use mathlib.Core.Bool.{Bool, true, false, _||_, _&&_}
 use lib.Dec.{ltb, leb, eqb}
-use lib.ListN.{length, getD, take, drop}
-use Rattle.standard.specs.Notation.{if_then_else_}
+use lib.ListN.{length, take, drop}
+use Rattle.lists.specs.Notation.{if_then_else_}
+use Rattle.lists.specs.Bytes.{word32, fourBytes}
 use Rattle.standard.specs.declared.names.CharRef.{CharRef}
 use Rattle.standard.specs.declared.names.Found.{Found}
 
@@ -55,10 +56,6 @@ unfoldable pub begins : List Name → List ℕ → Bool
 begins [] s = false
 begins (n ∷ names) s = stands s (n .word) || begins names s
 
--- Four bytes from i on as a number, the lowest first.
-abbrev pub word32 : List ℕ → ℕ → ℕ
-word32 l i = getD l i 0 + 256 * getD l (i + 1) 0 + 65536 * getD l (i + 2) 0 + 16777216 * getD l (i + 3) 0
-
 -- A record without its length byte: a name of n bytes from i on, and its two characters.
 abbrev pub recordAt : List ℕ → ℕ → ℕ → Name
 recordAt l i n = name (take n (drop i l)) (word32 l (i + n)) (word32 l (i + n + 4))
@@ -72,10 +69,6 @@ recordsFrom (suc skip) (b ∷ l) = recordsFrom skip l
 -- The names of a table.
 abbrev pub records : List ℕ → List Name
 records l = recordsFrom 0 l
-
--- The four bytes of a number, the lowest first.
-abbrev pub fourBytes : ℕ → List ℕ
-fourBytes n = n % 256 ∷ n / 256 % 256 ∷ n / 65536 % 256 ∷ n / 16777216 % 256 ∷ []
 
 -- The table of some names.
 unfoldable pub tableOf : List Name → List ℕ

@@ -4,7 +4,7 @@ use Prim.Native.Char.{code}
 use mathlib.Core.List.{List, [], _∷_}
 use mathlib.Core.Bool.{Bool, not, _||_, _&&_}
 use lib.Dec.{ltb, eqb}
-use Rattle.standard.specs.Notation.{if_then_else_, between}
+use Rattle.lists.specs.Notation.{if_then_else_, between}
 use Rattle.standard.specs.Classes.{noncharacter, whitespace, control}
 use Rattle.standard.specs.Errors.{
   no-error,

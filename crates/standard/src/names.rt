@@ -3,7 +3,8 @@
 ghost use mathlib.Core.Path.{_≡_};
 ghost use Prim.Native.Nat.{_≤_, _<_, _+_};
 ghost use lib.ListN.{length};
-ghost use Rattle.standard.specs.Names.{charRef, stands, longer, longest, begins, word32, recordAt, records};
+ghost use Rattle.lists.specs.Bytes.{word32};
+ghost use Rattle.standard.specs.Names.{charRef, stands, longer, longest, begins, recordAt, records};
 
 // The characters that a reference stands for: the first num_chars of chars.
 pub struct CharRef {

@@ -4,7 +4,7 @@ use mathlib.Core.Path.{_≡_, refl, sym, _∙_}
 use native.Mathlib.Omega.{arith}
 use lib.ListN.{length, take, drop, length-set}
 use lib.Seq.{take-all}
-use Rattle.standard.proofs.Blocks.{taken-more}
+use Rattle.lists.proofs.Blocks.{taken-more}
 use Rattle.rooms.proofs.block_at.Statement.{statement}
 use Rattle.rooms.proofs.block_at.Tie as tie
 

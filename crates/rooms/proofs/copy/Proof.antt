@@ -4,8 +4,8 @@ use mathlib.Core.Path.{_≡_, refl, _∙_}
 use native.Mathlib.Omega.{arith}
 use borrow.Author.Needs.{needs}
 use lib.ListN.{length, take, length-take, length-drop}
-use Rattle.standard.specs.Rooms.{Put}
-use Rattle.standard.proofs.Puts.{put-none, put-length}
+use Rattle.lists.specs.Rooms.{Put}
+use Rattle.lists.proofs.Puts.{put-none, put-length}
 use Rattle.rooms.proofs.Putting.{put-next, take-least}
 use Rattle.rooms.proofs.copy.Statement.{statement}
 use Rattle.rooms.proofs.copy.Tie as tie

@@ -4,8 +4,9 @@ use mathlib.Core.Path.{_≡_, refl, _∙_}
 use native.Mathlib.Omega.{arith}
 use borrow.Author.Needs.{needs}
 use lib.ListN.{length, take}
-use Rattle.standard.specs.Rooms.{Put, fours}
-use Rattle.standard.proofs.Puts.{put-none, put-length}
+use Rattle.lists.specs.Bytes.{fours}
+use Rattle.lists.specs.Rooms.{Put}
+use Rattle.lists.proofs.Puts.{put-none, put-length}
 use Rattle.rooms.proofs.Putting.{put-number-next, take-least}
 use Rattle.rooms.proofs.put_numbers.Statement.{statement}
 use Rattle.rooms.proofs.put_numbers.Tie as tie

@@ -1,7 +1,7 @@
 -- digit_of is what digitOf says, test by test.
 use borrow.Author.Needs.{needs}
+use Rattle.lists.proofs.Choice.{between-true}
 use Rattle.standard.specs.Numbers.{digitOf}
-use Rattle.standard.proofs.Choice.{between-true}
 use Rattle.checker.proofs.classes.digit_of.Statement.{statement}
 use Rattle.checker.proofs.classes.digit_of.Tie as tie
 

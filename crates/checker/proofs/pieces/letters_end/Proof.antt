@@ -7,8 +7,8 @@ use native.Mathlib.Omega.{arith}
 use lib.ListN.{length, getD}
 use borrow.Author.Needs.{needs}
 use borrow.Author.Tests.{not-true, not-false}
+use Rattle.lists.proofs.Fronts.{Skipping, skipping-all, skipping-on, skipped, passed-one, stopped-at, stopped-end}
 use Rattle.standard.specs.Classes.{alphanumeric}
-use Rattle.standard.proofs.Fronts.{Skipping, skipping-all, skipping-on, skipped, passed-one, stopped-at, stopped-end}
 use Rattle.checker.proofs.Peeks.{peek-there}
 use Rattle.checker.proofs.pieces.letters_end.Statement.{statement}
 use Rattle.checker.proofs.pieces.letters_end.Tie as tie

@@ -1,7 +1,7 @@
 -- Each arm of the table by computing at its number, the last by the tests that failed.
 use mathlib.Core.Path.{sym, ap}
+use Rattle.lists.proofs.Tests.{tests}
 use Rattle.standard.specs.Numbers.{replacements, replacedBy}
-use Rattle.standard.proofs.Tests.{tests}
 use Rattle.checker.proofs.references.c1.Statement.{statement}
 use Rattle.checker.proofs.references.c1.Tie as tie
 

@@ -6,7 +6,7 @@ use lib.Dec.{eqb}
 use lib.ListN.{getD}
 use borrow.Author.Needs.{needs}
 use borrow.Author.Tests.{eqb-true, not-false}
-use Rattle.standard.proofs.Choice.{no-way}
+use Rattle.lists.proofs.Choice.{no-way}
 use Rattle.checker.proofs.Meetings.{meets-known}
 use Rattle.checker.proofs.Peeks.{peek-there, peek-within}
 use Rattle.checker.proofs.RunLaws.{or-none}

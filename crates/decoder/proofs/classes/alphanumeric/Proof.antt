@@ -1,5 +1,5 @@
 -- alphanumeric is what the definition says: each test of the code is a test of a range.
-use Rattle.standard.proofs.Tests.{tests}
+use Rattle.lists.proofs.Tests.{tests}
 use Rattle.decoder.proofs.classes.alphanumeric.Statement.{statement}
 use Rattle.decoder.proofs.classes.alphanumeric.Tie as tie
 

@@ -4,7 +4,7 @@ use mathlib.Core.Bool.{not, _||_, _&&_}
 use lib.Dec.{eqb}
 use borrow.Author.Needs.{needs}
 use borrow.Author.Tests.{not-true, not-false, eq-eqb, ne-eqb}
-use Rattle.standard.specs.Notation.{if_then_else_}
+use Rattle.lists.specs.Notation.{if_then_else_}
 use Rattle.standard.specs.Classes.{whitespace, control, characterCode}
 use Rattle.decoder.proofs.classes.character_code.Statement.{statement}
 use Rattle.decoder.proofs.classes.character_code.Tie as tie

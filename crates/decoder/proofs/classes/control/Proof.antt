@@ -1,5 +1,5 @@
 -- control is what the definition says: each test of the code is a test of a range.
-use Rattle.standard.proofs.Tests.{tests}
+use Rattle.lists.proofs.Tests.{tests}
 use Rattle.decoder.proofs.classes.control.Statement.{statement}
 use Rattle.decoder.proofs.classes.control.Tie as tie
 

@@ -4,7 +4,7 @@ use mathlib.Core.Bool.{and-true}
 use mathlib.Core.Path.{sym}
 use native.Mathlib.Omega.{arith}
 use borrow.Author.Tests.{lt-leb, le-leb}
-use Rattle.standard.proofs.Tests.{tests}
+use Rattle.lists.proofs.Tests.{tests}
 use Rattle.decoder.proofs.classes.noncharacter.Statement.{statement}
 use Rattle.decoder.proofs.classes.noncharacter.Tie as tie
 

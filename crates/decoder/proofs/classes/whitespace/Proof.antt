@@ -1,7 +1,7 @@
 -- whitespace is what the definition says: each arm by computing at its number, the last by the tests that failed.
 use mathlib.Core.Path.{sym, ap}
+use Rattle.lists.proofs.Tests.{tests}
 use Rattle.standard.specs.Classes.{whitespace}
-use Rattle.standard.proofs.Tests.{tests}
 use Rattle.decoder.proofs.classes.whitespace.Statement.{statement}
 use Rattle.decoder.proofs.classes.whitespace.Tie as tie
 

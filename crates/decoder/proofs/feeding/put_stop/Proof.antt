@@ -1,7 +1,7 @@
 use native.Mathlib.Omega.{arith}
 use borrow.Author.Needs.{needs}
 use borrow.Author.Tests.{eq-eqb, ne-eqb}
-use Rattle.standard.proofs.Puts.{wrote-none}
+use Rattle.decoder.proofs.Writing.{wrote-none}
 use Rattle.decoder.proofs.feeding.put_stop.Statement.{statement}
 use Rattle.decoder.proofs.feeding.put_stop.Tie as tie
 

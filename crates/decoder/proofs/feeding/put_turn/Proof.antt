@@ -1,6 +1,7 @@
 use native.Mathlib.Omega.{arith}
 use borrow.Author.Needs.{needs}
-use Rattle.standard.proofs.Puts.{wrote-text, wrote-join, put-length}
+use Rattle.lists.proofs.Puts.{put-length}
+use Rattle.decoder.proofs.Writing.{wrote-text, wrote-join}
 use Rattle.decoder.proofs.Releasing.{rest-copied}
 use Rattle.decoder.proofs.feeding.put_turn.Statement.{statement}
 use Rattle.decoder.proofs.feeding.put_turn.Tie as tie

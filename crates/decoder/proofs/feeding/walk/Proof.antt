@@ -4,7 +4,7 @@ use mathlib.Core.Path.{_∙_}
 use mathlib.Core.Logic.{inl, inr}
 use native.Mathlib.Omega.{arith}
 use lib.ListN.{length}
-use Rattle.standard.proofs.Puts.{put-length}
+use Rattle.lists.proofs.Puts.{put-length}
 use Rattle.decoder.proofs.Taking.{
   Taken,
   taken-start,

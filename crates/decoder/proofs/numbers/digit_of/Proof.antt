@@ -1,6 +1,6 @@
 -- digit_of is what digitOf says: each test of the code is a test of a range.
 use Rattle.standard.specs.Numbers.{digitOf}
-use Rattle.standard.proofs.Tests.{tests}
+use Rattle.lists.proofs.Tests.{tests}
 use borrow.Author.Needs.{needs}
 use Rattle.decoder.proofs.numbers.digit_of.Statement.{statement}
 use Rattle.decoder.proofs.numbers.digit_of.Tie as tie

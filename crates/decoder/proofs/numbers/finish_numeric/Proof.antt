@@ -3,7 +3,7 @@ use mathlib.Core.Path.{_≡_, refl, sym, _∙_}
 use mathlib.Core.Bool.{not, _&&_}
 use borrow.Author.Needs.{needs}
 use borrow.Author.Tests.{not-true, not-false, ne-eqb}
-use Rattle.standard.specs.Notation.{if_then_else_}
+use Rattle.lists.specs.Notation.{if_then_else_}
 use Rattle.standard.specs.Classes.{whitespace, control}
 use Rattle.standard.specs.Numbers.{replacements, replacedBy, means, meaningOf}
 use Rattle.standard.proofs.Meanings.{meaning-outside, meaning-surrogate, meaning-scalar}

@@ -1,6 +1,6 @@
 use mathlib.Core.Path.{sym}
 use borrow.Author.Needs.{needs}
-use Rattle.standard.proofs.Nexts.{next-at, next-none}
+use Rattle.lists.proofs.Nexts.{next-at, next-none}
 use Rattle.decoder.proofs.pieces.next_is.Statement.{statement}
 use Rattle.decoder.proofs.pieces.next_is.Tie as tie
 

@@ -4,7 +4,7 @@ use native.Mathlib.Omega.{arith}
 use borrow.Author.Needs.{needs}
 use Rattle.standard.specs.Pieces.{numeric}
 use lib.Dec.{eqb}
-use Rattle.standard.proofs.Nexts.{next-there}
+use Rattle.lists.proofs.Nexts.{next-there}
 use Rattle.decoder.proofs.pieces.numeric.Statement.{statement}
 use Rattle.decoder.proofs.pieces.numeric.Tie as tie
 

@@ -6,7 +6,7 @@ use lib.ListN.{length}
 use borrow.Author.Needs.{needs}
 use Rattle.standard.specs.Pieces.{numeric, reference}
 use lib.Dec.{eqb}
-use Rattle.standard.proofs.Nexts.{next-there}
+use Rattle.lists.proofs.Nexts.{next-there}
 use Rattle.standard.proofs.Skips.{rest-from}
 use Rattle.decoder.proofs.pieces.reference.Statement.{statement}
 use Rattle.decoder.proofs.pieces.reference.Tie as tie

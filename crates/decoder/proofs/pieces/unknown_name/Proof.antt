@@ -5,8 +5,8 @@ use native.Mathlib.Omega.{arith}
 use lib.ListN.{length}
 use borrow.Author.Needs.{needs}
 use borrow.Author.Tests.{not-true, not-false}
+use Rattle.lists.proofs.Fronts.{Skipping, passed-one, skipping-all, skipping-on}
 use Rattle.standard.specs.Classes.{alphanumeric}
-use Rattle.standard.proofs.Fronts.{Skipping, passed-one, skipping-all, skipping-on}
 use Rattle.decoder.proofs.NameLaws.{unknown-end, unknown-closed, unknown-other}
 use Rattle.decoder.proofs.pieces.unknown_name.Statement.{statement}
 use Rattle.decoder.proofs.pieces.unknown_name.Tie as tie

@@ -4,8 +4,8 @@ use mathlib.Core.Path.{_≡_}
 use mathlib.Core.Logic.{⊎-map}
 use native.Mathlib.Omega.{arith}
 use borrow.Author.Needs.{needs}
+use Rattle.lists.proofs.Blocks.{Counted, counted-none, counted-more}
 use Rattle.decoder.specs.Runs as spec
-use Rattle.standard.proofs.Blocks.{Counted, counted-none, counted-more}
 use Rattle.decoder.proofs.runs.ordinary_block.Statement.{statement}
 use Rattle.decoder.proofs.runs.ordinary_block.Tie as tie
 

@@ -5,8 +5,8 @@ use native.Mathlib.Omega.{arith}
 use lib.ListN.{length}
 use borrow.Author.Needs.{needs}
 use borrow.Author.Tests.{not-false}
+use Rattle.lists.proofs.Fronts.{Skipping, skipping-all, skipping-on, passed-block}
 use Rattle.decoder.specs.Runs as spec
-use Rattle.standard.proofs.Fronts.{Skipping, skipping-all, skipping-on, passed-block}
 use Rattle.decoder.proofs.runs.plain_run.Statement.{statement}
 use Rattle.decoder.proofs.runs.plain_run.Tie as tie
 

@@ -7,7 +7,7 @@ use native.Mathlib.Omega.{arith}
 use lib.ListN.{length, take, drop}
 use borrow.Author.Needs.{needs}
 use borrow.Author.Tests.{not-false}
-use Rattle.standard.specs.Notation.{every}
+use Rattle.lists.specs.Notation.{every}
 use Rattle.decoder.specs.Skims.{inReference}
 use Rattle.decoder.proofs.SkimLaws.{between-more, closes-at}
 use Rattle.decoder.proofs.skimming.reference_end.Statement.{statement}

@@ -8,8 +8,8 @@ use lib.Seq.{length-take-le}
 use types.Run.{OneOf, miss}
 use denote.Enum.Declared.{tagOf}
 use borrow.Author.Needs.{needs}
+use Rattle.lists.proofs.Choice.{no-way}
 use Rattle.standard.specs.NameList.{builtin}
-use Rattle.standard.proofs.Choice.{no-way}
 use Rattle.decoder.specs.declared.stream.State.{State}
 use Rattle.decoder.specs.declared.stream.State.the-variants as kind
 use Rattle.decoder.specs.declared.stream.Held.{Held}

@@ -2,7 +2,7 @@ use Prim.Native.Nat.{_/_}
 use mathlib.Core.Path.{_∙_, ap}
 use native.Mathlib.Omega.{arith}
 use lib.ListN.{length, length-take}
-use Rattle.standard.proofs.Puts.{laid-fours}
+use Rattle.lists.proofs.Layings.{laid-fours}
 use Rattle.standard.proofs.Stops.{stop-place}
 use Rattle.decoder.specs.declared.whole.Decoded.{Decoded}
 use Rattle.decoder.proofs.Answering.{stopped-for, unread-answer, unread-place, whole-done, whole-left, whole-unread}

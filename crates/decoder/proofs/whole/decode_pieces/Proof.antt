@@ -3,10 +3,10 @@ use Prim.Native.Nat.{_-_, _<_}
 use native.Mathlib.Omega.{arith}
 use lib.ListN.{length, length-drop}
 use borrow.Author.Needs.{needs}
+use Rattle.lists.specs.Bytes.{plainly}
+use Rattle.lists.proofs.Layings.{laid-plainly}
 use Rattle.standard.specs.NameList.{builtin}
-use Rattle.standard.specs.Rooms.{plainly}
 use Rattle.standard.proofs.Narrow.{builtin-narrow}
-use Rattle.standard.proofs.Puts.{laid-plainly}
 use Rattle.standard.proofs.Skips.{rest-from}
 use Rattle.decoder.proofs.Walk.{Going, going-start, going-room, going-end, turn-run, turn-piece, run-there, piece-some}
 use Rattle.decoder.proofs.whole.decode_pieces.Statement.{statement}

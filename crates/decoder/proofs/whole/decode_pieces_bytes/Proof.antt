@@ -4,10 +4,11 @@ use mathlib.Core.Path.{_≡_, refl, sym, _∙_}
 use native.Mathlib.Omega.{arith}
 use lib.ListN.{length, length-drop, length-take}
 use borrow.Author.Needs.{needs}
+use Rattle.lists.specs.Bytes.{fours}
+use Rattle.lists.proofs.Puts.{put-length}
+use Rattle.lists.proofs.Layings.{laid-fours}
 use Rattle.standard.specs.NameList.{builtin}
-use Rattle.standard.specs.Rooms.{fours}
 use Rattle.standard.proofs.Narrow.{builtin-narrow}
-use Rattle.standard.proofs.Puts.{laid-fours, put-length}
 use Rattle.standard.proofs.Skips.{rest-from}
 use Rattle.decoder.proofs.Walk.{Going, going-start, going-room, going-end, turn-run, turn-piece, run-there, piece-some, wrote-through}
 use Rattle.decoder.proofs.whole.decode_pieces_bytes.Statement.{statement}

@@ -1,7 +1,7 @@
 use mathlib.Core.Path.{_∙_, ap}
 use native.Mathlib.Omega.{arith}
 use lib.ListN.{length, length-take}
-use Rattle.standard.proofs.Puts.{laid-plainly}
+use Rattle.lists.proofs.Layings.{laid-plainly}
 use Rattle.standard.proofs.Stops.{stop-place}
 use Rattle.decoder.specs.declared.whole.Decoded.{Decoded}
 use Rattle.decoder.proofs.Answering.{stopped-for, unread-answer, unread-place, whole-done, whole-left, whole-unread}

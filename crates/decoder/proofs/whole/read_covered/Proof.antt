@@ -1,5 +1,5 @@
 use native.Mathlib.Omega.{arith}
-use Rattle.standard.proofs.Puts.{laid-plainly}
+use Rattle.lists.proofs.Layings.{laid-plainly}
 use Rattle.decoder.proofs.Answering.{reads-of, wrote-few}
 use borrow.Author.Needs.{needs}
 use Rattle.decoder.proofs.whole.read_covered.Statement.{statement}

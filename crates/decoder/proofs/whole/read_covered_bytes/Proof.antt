@@ -1,5 +1,5 @@
 use native.Mathlib.Omega.{arith}
-use Rattle.standard.proofs.Puts.{laid-fours}
+use Rattle.lists.proofs.Layings.{laid-fours}
 use Rattle.decoder.proofs.Answering.{reads-of, wrote-few}
 use borrow.Author.Needs.{needs}
 use Rattle.decoder.proofs.whole.read_covered_bytes.Statement.{statement}

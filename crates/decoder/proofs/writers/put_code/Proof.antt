@@ -1,7 +1,7 @@
 use borrow.Author.Tests.{ne-eqb}
 use borrow.Author.Needs.{needs}
+use Rattle.lists.proofs.Puts.{put-none}
 use Rattle.standard.specs.Errors.{placed, numbers}
-use Rattle.standard.proofs.Puts.{put-none}
 use Rattle.decoder.proofs.writers.put_code.Statement.{statement}
 use Rattle.decoder.proofs.writers.put_code.Tie as tie
 

@@ -1,7 +1,7 @@
 use native.Mathlib.Omega.{arith}
 use borrow.Author.Needs.{needs}
+use Rattle.lists.proofs.Puts.{put-join, put-length}
 use Rattle.standard.specs.Errors.{listed}
-use Rattle.standard.proofs.Puts.{put-join, put-length}
 use Rattle.decoder.proofs.Contents.{placed-numbers, listed-short}
 use Rattle.decoder.proofs.writers.put_codes.Statement.{statement}
 use Rattle.decoder.proofs.writers.put_codes.Tie as tie

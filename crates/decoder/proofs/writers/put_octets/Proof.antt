@@ -4,8 +4,8 @@ use native.Mathlib.Numerals.{towards-suc}
 use lib.ListN.{length-set}
 use borrow.Author.Tests.{lt-ltb, le-ltb}
 use borrow.Author.Needs.{needs}
+use Rattle.lists.proofs.Puts.{put-one}
 use Rattle.standard.specs.Utf8.{octets}
-use Rattle.standard.proofs.Puts.{put-one}
 use Rattle.decoder.proofs.writers.put_octets.Statement.{statement}
 use Rattle.decoder.proofs.writers.put_octets.Tie as tie
 

@@ -2,8 +2,8 @@ use mathlib.Core.Path.{_≡_}
 use native.Mathlib.Omega.{arith}
 use lib.ListN.{length, getD}
 use borrow.Author.Needs.{needs}
+use Rattle.lists.proofs.Puts.{put-none, put-join, put-length}
 use Rattle.standard.specs.Pieces.{encodes}
-use Rattle.standard.proofs.Puts.{put-none, put-join, put-length}
 use Rattle.standard.proofs.References.{encodes-one, encodes-both}
 use Rattle.standard.proofs.RoundTrip.{encode-short}
 use Rattle.decoder.proofs.writers.put_reference.Statement.{statement}

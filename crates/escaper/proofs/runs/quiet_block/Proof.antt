@@ -4,7 +4,7 @@ use mathlib.Core.Path.{_≡_}
 use mathlib.Core.Logic.{⊎-map}
 use native.Mathlib.Omega.{arith}
 use borrow.Author.Needs.{needs}
-use Rattle.standard.proofs.Blocks.{Counted, counted-none, counted-more}
+use Rattle.lists.proofs.Blocks.{Counted, counted-none, counted-more}
 use Rattle.escaper.specs.Walk.{quiet}
 use Rattle.escaper.proofs.runs.quiet_block.Statement.{statement}
 use Rattle.escaper.proofs.runs.quiet_block.Tie as tie

@@ -5,7 +5,7 @@ use native.Mathlib.Omega.{arith}
 use lib.ListN.{length}
 use borrow.Author.Needs.{needs}
 use borrow.Author.Tests.{not-true, not-false}
-use Rattle.standard.proofs.Fronts.{Skipping, skipping-on, skipped, passed-one, stopped-at, stopped-end}
+use Rattle.lists.proofs.Fronts.{Skipping, skipping-on, skipped, passed-one, stopped-at, stopped-end}
 use Rattle.escaper.specs.Walk.{quiet}
 use Rattle.escaper.proofs.runs.run_end.Statement.{statement}
 use Rattle.escaper.proofs.runs.run_end.Tie as tie

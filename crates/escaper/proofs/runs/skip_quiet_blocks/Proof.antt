@@ -4,7 +4,7 @@ use mathlib.Core.Path.{sym, _∙_}
 use native.Mathlib.Omega.{arith}
 use lib.ListN.{length}
 use borrow.Author.Tests.{not-false}
-use Rattle.standard.proofs.Fronts.{Skipping, skipping-all, skipping-on, passed-block}
+use Rattle.lists.proofs.Fronts.{Skipping, skipping-all, skipping-on, passed-block}
 use Rattle.escaper.specs.Walk.{quiet}
 use Rattle.escaper.proofs.runs.skip_quiet_blocks.Statement.{statement}
 use Rattle.escaper.proofs.runs.skip_quiet_blocks.Tie as tie

@@ -5,7 +5,7 @@ use borrow.Fn.Kinds.{In}
 use borrow.Fn.PlainCycle.{Measures, is, falls, and}
 use borrow.Author.Needs.{needs}
 use lib.ListN.{length}
-use Rattle.standard.proofs.Puts.{put-length}
+use Rattle.lists.proofs.Puts.{put-length}
 use Rattle.reporting.proofs.Decimals.{decimal-one}
 use Rattle.reporting.proofs.Writing.{tenth-room, put-one-digit, put-last-digit}
 use Rattle.reporting.proofs.lines.put_decimal.Reads as put-decimal

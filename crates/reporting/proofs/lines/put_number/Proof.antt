@@ -2,7 +2,7 @@
 use mathlib.Core.List.{[], _∷_}
 use native.Mathlib.Omega.{arith}
 use borrow.Author.Needs.{needs}
-use Rattle.standard.proofs.Puts.{put-join}
+use Rattle.lists.proofs.Puts.{put-join}
 use Rattle.reporting.specs.Report.{decimal}
 use Rattle.reporting.proofs.Writing.{room-first, room-then}
 use Rattle.reporting.proofs.lines.put_number.Statement.{statement}

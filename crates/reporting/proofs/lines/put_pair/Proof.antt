@@ -2,7 +2,7 @@
 use Prim.Native.Char.{code}
 use mathlib.Core.List.{[], _∷_, _++_}
 use borrow.Author.Needs.{needs}
-use Rattle.standard.proofs.Puts.{put-join}
+use Rattle.lists.proofs.Puts.{put-join}
 use Rattle.reporting.specs.Report.{decimal}
 use Rattle.reporting.proofs.Writing.{room-first, room-then}
 use Rattle.reporting.proofs.LineLaws.{pair-line}

@@ -1,6 +1,6 @@
 -- The word, and then the place with LF.
 use borrow.Author.Needs.{needs}
-use Rattle.standard.proofs.Puts.{put-join}
+use Rattle.lists.proofs.Puts.{put-join}
 use Rattle.rooms.proofs.Fits.{copy-fits}
 use Rattle.reporting.specs.Report.{decimal, line}
 use Rattle.reporting.proofs.Writing.{room-first, room-then}

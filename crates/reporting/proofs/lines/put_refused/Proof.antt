@@ -1,7 +1,7 @@
 -- The word, and then the line of the two numbers.
 use borrow.Author.Needs.{needs}
+use Rattle.lists.proofs.Puts.{put-join}
 use Rattle.standard.specs.Utf8.{bytes}
-use Rattle.standard.proofs.Puts.{put-join}
 use Rattle.standard.proofs.Computing.{computing}
 use Rattle.rooms.proofs.Fits.{copy-fits}
 use Rattle.reporting.specs.Report.{pair, line}

@@ -10,7 +10,7 @@ use lib.Dec.{eqb}
 use lib.ListN.{length, getD, take, drop, set, length-drop}
 use lib.Seq.{take-suc, take-suc-set, getD-drop}
 use borrow.Author.Tests.{ne-eqb, not-true, not-false}
-use Rattle.standard.specs.Notation.{every}
+use Rattle.lists.specs.Notation.{every}
 
 -- Of the first i elements from `at` on, odd is 0 exactly if every one passes.
 pub record Counted (p : ℕ → Bool) (s : List ℕ) (at i odd : ℕ) : Type 0 where

@@ -3,7 +3,7 @@ use mathlib.Core.Path.{_≡_, sym, subst}
 use mathlib.Core.Logic.{_⊎_, inl, inr}
 use mathlib.Core.List.{List, [], _∷_, List·Memᴰ, List·Memᴰ·not-nil, List·Memᴰ·cases-cons}
 use mathlib.Core.Bool.{Bool, true, and-eq-true-iff}
-use Rattle.standard.specs.Notation.{every}
+use Rattle.lists.specs.Notation.{every}
 
 -- P holds of every element.
 abbrev pub All : {A : Type 0} → (A → Type 0) → List A → Type 0

@@ -6,7 +6,7 @@ use mathlib.Core.Logic.{_⊎_, inl, inr, ⊎-elim, ⊎-map}
 use native.Mathlib.Omega.{arith}
 use lib.Dec.{T, ltb, leb}
 use borrow.Author.Tests.{le-leb, lt-leb, ltb-true, ltb-false, leb-true, leb-false, eqb-true, eqb-false}
-use Rattle.standard.specs.Notation.{if_then_else_, between}
+use Rattle.lists.specs.Notation.{if_then_else_, between}
 
 -- What omega reads tests of numbers by: ltb is a leb.
 pub ruleset facts = (arith, leb-true, leb-false, eqb-true, eqb-false)

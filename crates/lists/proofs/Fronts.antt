@@ -7,8 +7,8 @@ use native.Mathlib.Omega.{arith}
 use native.Mathlib.Numerals.{add-one}
 use lib.ListN.{length, getD, take, drop, length-append, length-take, length-drop, drop-of-length-le}
 use lib.Seq.{drop-cons, drop-drop}
-use Rattle.standard.specs.Notation.{if_then_else_, front, every}
-use Rattle.standard.proofs.Choice.{if-both, and-true}
+use Rattle.lists.specs.Notation.{if_then_else_, front, every}
+use Rattle.lists.proofs.Choice.{if-both, and-true}
 
 -- Where no element is left there is none at the front.
 pub front-none : (p : ℕ → Bool) (s : List ℕ) (i : ℕ) → length s ≤ i → front p (drop i s) ≡ []

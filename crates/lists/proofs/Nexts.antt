@@ -9,8 +9,8 @@ use lib.Dec.{ltb}
 use lib.ListN.{length, getD, drop, drop-of-length-le}
 use lib.Seq.{drop-cons}
 use borrow.Author.Tests.{lt-ltb}
-use Rattle.standard.specs.Notation.{nextIs, front}
-use Rattle.standard.proofs.Choice.{if-both, no-way, below?}
+use Rattle.lists.specs.Notation.{nextIs, front}
+use Rattle.lists.proofs.Choice.{if-both, no-way, below?}
 
 module _ (p : ℕ → Bool) (s : List ℕ) (at : ℕ) where
   -- What is next at a place is what stands there.

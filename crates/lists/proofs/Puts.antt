@@ -1,0 +1,43 @@
+-- Laws of writing into a room: what two writers one after the other write is what one would.
+use Prim.Native.Nat.{ℕ, suc, _+_, _≤_, _<_}
+use mathlib.Core.Path.{_≡_, refl, sym, _∙_, ap}
+use mathlib.Core.List.{List, [], _∷_, _++_}
+use native.Mathlib.Omega.{arith}
+use native.Mathlib.Numerals.{add-one}
+use lib.ListN.{length, getD, drop, set, length-append, drop-of-length-le}
+use lib.Seq.{drop-cons, sets, length-sets}
+use Rattle.lists.specs.Rooms.{Put}
+
+-- Joined values are written one after the other.
+pub sets-append : (l : List ℕ) (i : ℕ) (u v : List ℕ) → sets l i (u ++ v) ≡ sets (sets l i u) (i + length u) v
+sets-append l i [] v = ap (λ (n : ℕ). sets l n v) (let e : i ≡ i + 0 = omega arith in e)
+sets-append l i (a ∷ u) v =
+    sets-append (set l i a) (suc i) u v
+    ∙ ap (λ (n : ℕ). sets (sets (set l i a) (suc i) u) n v) (let e : suc i + length u ≡ i + suc (length u) = omega arith in e)
+
+-- Nothing is written.
+pub put-none : (old : List ℕ) (at : ℕ) → Put old at [] old at
+put-none old at = record { next-is = omega arith; new-is = refl }
+
+-- One value is written.
+pub put-one : (old : List ℕ) (at v : ℕ) → Put old at (v ∷ []) (set old at v) (at + 1)
+put-one old at v = record { next-is = refl; new-is = refl }
+
+-- Two writers.
+pub put-join : {old mid new : List ℕ} {at m next : ℕ} {u v : List ℕ} → Put old at u mid m → Put mid m v new next → Put old at (u ++ v) new next
+put-join {old} {mid} {new} {at} {m} {next} {u} {v} a b = record {
+  next-is = simp length-append (omega (arith, a .next-is, b .next-is));
+  new-is = b .new-is ∙ rw (a .new-is, a .next-is) (sym (sets-append old at u v));
+}
+
+-- Writing leaves the room's length.
+pub put-length : {old new : List ℕ} {at next : ℕ} {u : List ℕ} → Put old at u new next → length new ≡ length old
+put-length {old} {new} {at} {next} {u} a = ap length (a .new-is) ∙ length-sets old at u
+
+-- The rest of a list is written by one value and then the rest after it.
+pub sets-drop : (l h : List ℕ) (o i : ℕ) → i < length h → sets l o (drop i h) ≡ sets (set l o (getD h i 0)) (o + 1) (drop (i + 1) h)
+sets-drop l h o i k = rw (drop-cons h i 0 k, add-one o, add-one i)
+
+-- Where nothing is left nothing is written.
+pub sets-done : (l h : List ℕ) (o i : ℕ) → length h ≤ i → sets l o (drop i h) ≡ l
+sets-done l h o i k = rw (drop-of-length-le h k)
