@@ -5,16 +5,18 @@ command -v rt >/dev/null || {
 }
 tools=$(dirname "$(dirname "$(rt doc)")")/on/$(uname -m)/toolchain
 
-# Proves and builds by rt with the words given, only what has changed. What rt says goes to standard error, and only where it fails.
+# Proves and builds by rt with the words given, only what has changed. A line on standard error tells of each crate that was proved anew, and where
+# rt fails the last ones that it said.
 prove() {
-    local said
+    local said failed=
     said=$(mktemp)
-    if rt "$@" >"$said" 2>&1; then rm -f "$said"; else
+    rt "$@" 2>&1 | tee "$said" | sed -nu 's/^rt: \(.* proved ([0-9]* s)\)$/\1/p' >&2 || failed=1
+    if [ -n "$failed" ]; then
         tail -n 20 "$said" >&2
-        rm -f "$said"
         echo "rt $* failed" >&2
-        exit 1
     fi
+    rm -f "$said"
+    [ -z "$failed" ] || exit 1
 }
 
 # Runs a program for x86-64 Linux by the kit's loader, on Arm under the kit's emulator.

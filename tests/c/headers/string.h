@@ -2,8 +2,6 @@
 #ifndef HEADERS_STRING_H
 #define HEADERS_STRING_H
 #include <stddef.h>
-int memcmp(const void *, const void *, size_t);
-void *memcpy(void *, const void *, size_t);
 void *memset(void *, int, size_t);
 size_t strlen(const char *);
 #endif
