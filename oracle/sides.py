@@ -161,24 +161,41 @@ def exports():
     return Framed("ours, exports", [ROOT / "run-c", HERE / "ours.c"])
 
 
-class Lines:
-    """A program that reads a list of records and writes a line for each; a process for as many records as it takes."""
+# The longest list that the program replay takes, and its largest rooms.
+MOST_LIST_BYTES, MOST_TEXT_ROOM, MOST_ERROR_ROOM = 1_000_000, 400_000, 140_000
 
-    def __init__(self, program, most_bytes):
-        self.command = command(built(program))
-        self.most_bytes = most_bytes
+
+def listed(letter, records):
+    """A list as the program replay takes it: letter, length, and the records."""
+    assert len(records) <= MOST_LIST_BYTES, "the program reads no longer list"
+    return letter + number(len(records)) + records
+
+
+def record(kind, rooms, source, before=b""):
+    """A record of a list: its head, what stands before the source, and the source."""
+    return struct.pack("<BIIIHH", kind, *rooms, 0, len(source), len(before)) + before + source
+
+
+class Lines:
+    """The program replay, which reads lists of records and writes a line for each record; a process for each list."""
+
+    letter = None
+
+    def __init__(self):
+        self.command = command(built("replay"))
 
     def run(self, records):
         """The lines for records."""
         lines = []
         some, size = [], 0
-        for record in [*records, None]:
-            if record is None or size + len(record) > self.most_bytes:
-                lines += subprocess.run(self.command, input=b"".join(some), stdout=subprocess.PIPE, check=True).stdout.split(b"\n")[:-1]
+        for packed in [*records, None]:
+            if packed is None or size + len(packed) > MOST_LIST_BYTES:
+                said = subprocess.run(self.command, input=listed(self.letter, b"".join(some)), stdout=subprocess.PIPE, check=True).stdout
+                lines += said.split(b"\n")[:-1]
                 some, size = [], 0
-            if record is not None:
-                some.append(record)
-                size += len(record)
+            if packed is not None:
+                some.append(packed)
+                size += len(packed)
         return lines
 
     def close(self):
@@ -186,18 +203,20 @@ class Lines:
 
 
 class Whole(Lines):
-    """Ours, whole: decode_whole and escape, through the program replay_rust."""
+    """Ours, whole: decode_whole and escape, as the Rust's sample is replayed."""
 
     name = "ours, whole"
+    letter = b"R"
 
-    def __init__(self):
-        super().__init__("replay_rust", 400_000)
+    @staticmethod
+    def records(kinds, sources):
+        """Records that ask for sources, with rooms that are never short."""
+        return [record(kind, (MOST_TEXT_ROOM, MOST_ERROR_ROOM), source) for source in sources for kind in kinds]
 
     def answers(self, kinds, sources):
         """Text and codes of every line; a refusal differs from anything."""
-        records = [struct.pack("<BH", kind, len(source)) + source for source in sources for kind in kinds]
         out = []
-        for line in self.run(records):
+        for line in self.run(self.records(kinds, sources)):
             text, *codes = line.split(b" ")
             if text == b"refused":
                 out.append(answer(b"?refused", []))
@@ -222,18 +241,19 @@ MORE_ERRORS = (0, 1, 2, 5, 30)
 
 
 class Stream(Lines):
-    """Ours, in chunks: the stream through the program replay_stream, cut at random, with small rooms."""
+    """Ours, in chunks: the stream, cut at random, with small rooms."""
 
     name = "ours, in chunks"
+    letter = b"S"
     tries = 8
 
     def __init__(self, seed):
-        super().__init__("replay_stream", 400_000)
+        super().__init__()
         self.draw = random.Random(seed)
         self.cuts = []
 
-    def record(self, kind, source):
-        """A source with lengths of chunks and rooms."""
+    def cut(self, kind, source):
+        """A record of a source, with lengths of chunks and rooms."""
         draw = self.draw.random
         longest = LONGEST[int(draw() * len(LONGEST))] + len(source) // 6
         left, lengths = len(source), []
@@ -244,7 +264,7 @@ class Stream(Lines):
             lengths.insert(int(draw() * (len(lengths) + 1)), 0)
         rooms = 64 + MORE_TEXT[int(draw() * len(MORE_TEXT))] + len(source) // 6, 8 + MORE_ERRORS[int(draw() * len(MORE_ERRORS))] + len(source) // 20
         self.cuts.append((lengths, rooms))
-        return struct.pack(f"<BIIIHH{len(lengths)}H", kind, *rooms, 0, len(source), 2 * len(lengths), *lengths) + source
+        return record(kind, rooms, source, struct.pack(f"<{len(lengths)}H", *lengths))
 
     def explain(self, index):
         """How a source of the last batch was handed over."""
@@ -254,7 +274,7 @@ class Stream(Lines):
     def decode(self, batch):
         """Both contexts: text and codes of all calls, joined; a call with an answer that a readable source never has differs from anything."""
         self.cuts = []
-        records = [self.record(kind, source) for source in batch.sources for kind in b"ta"]
+        records = [self.cut(kind, source) for source in batch.sources for kind in b"ta"]
         out = []
         for line in self.run(records):
             calls = [call.split(b" ") for call in line.split(b" | ")[1:-1]]

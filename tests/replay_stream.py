@@ -4,10 +4,12 @@ Made from the paper alone: document 01 (what the bench reads, pieces, the chunk 
 the project only the fields of the record are known here. Names, characters and pieces are those of replay_whole.py, which is made in
 the same way. Only the standard library is needed.
 
-    python3 tests/replay_stream.py crates/replay_stream
+    python3 tests/replay_stream.py FOLDER
 
-writes to that folder stdin, the records to be replayed, and stdout, one line for each:
+writes to that folder stdin, a list of records to be replayed, and stdout, one line for each. They are the second part of those of crates/replay,
+where `cat` puts the parts together; tests/replay does all of it.
 
+    list     the letter S, how many bytes the records have (4 bytes, little-endian), and the records
     record   kind, text room, error room, fill, n, m: 1 + 4 + 4 + 4 + 2 + 2 bytes, numbers little-endian; then m bytes; then n bytes.
              The source is the n bytes and then `fill` times `x`.
 
@@ -30,9 +32,9 @@ writes to that folder stdin, the records to be replayed, and stdout, one line fo
 A line ends with ` TOUCHED` if a call changed a room past what it wrote. The sum takes in all that a call hands back, the text and the
 errors written among it.
 
-    python3 tests/replay_stream.py crates/replay_stream NUMBER
+    python3 tests/replay_stream.py FOLDER NUMBER
 
-prints the source or the record of the line with this number, counted from 1, and all calls behind it, cut by cut.
+prints the source or the record of the line of FOLDER/stdout with this number, counted from 1, and all calls behind it, cut by cut.
 
 First comes the model, then its own test, then runs and lines, and the cases last. The model goes byte by byte and holds bytes back;
 before anything is written it is held, for every source and after every call of every cut, against a definition that looks at the bytes
@@ -51,7 +53,8 @@ from typing import NamedTuple
 from replay_whole import (
     ATTRIBUTE, BEGINNINGS, BLOCK, C1_RANGE, CONTEXT_END, CONTEXTS, ENDED, ILL_FORMED, LEFT, LETTERS, MARKED_SOURCES, NAMES, NUL, NUMBER,
     ONLY_RUN, TEXT, TOO_LONG, UNKNOWN_NAME, WELL_FORMED, ampersand_sources, blocks, character_at, check_examples, check_names, error_list,
-    faulty_sources, first_stop, line_break_sources, longest_name, nul_sources, piece_at, read_pieces, written,
+    faulty_sources, first_stop, line_break_sources, longest_name, nul_sources, packed, piece_at, read_pieces, write_part,
+    written,
 )
 
 # ----------------------------------------------------------------------------------------------------------------- the model: the record
@@ -417,14 +420,8 @@ def run_sum(calls):
 
 LEAST_ROOMS = LEAST_TEXT_ROOM, LEAST_ERROR_ROOM
 
-# What the replaying program has room for.
-MOST_LIST_BYTES, MOST_SOURCE_BYTES, MOST_TEXT_ROOM, MOST_ERROR_ROOM = 400_000, 65_600, 70_000, 20_000
-
-
-def packed(kind, rooms, head, fill, extra):
-    """A record as it stands in stdin."""
-    assert len(head) + fill <= MOST_SOURCE_BYTES and rooms[0] <= MOST_TEXT_ROOM and rooms[1] <= MOST_ERROR_ROOM
-    return struct.pack("<cIIIHH", kind.encode(), *rooms, fill, len(head), len(extra)) + extra + head
+# The largest rooms here.
+MOST_TEXT_ROOM, MOST_ERROR_ROOM = 70_000, 20_000
 
 
 def call_field(call):
@@ -460,7 +457,7 @@ class Source(NamedTuple):
 
     def packed(self):
         """The record in stdin."""
-        return packed(self.kind, self.rooms, self.source, 0, struct.pack(f"<{len(self.lengths)}H", *self.lengths))
+        return packed(self.kind, *self.rooms, 0, self.source, struct.pack(f"<{len(self.lengths)}H", *self.lengths))
 
     def cuts(self):
         """The runs in two chunks and the run byte by byte."""
@@ -496,7 +493,7 @@ class Forged(NamedTuple):
         record = self.record
         numbers = record.base, record.value, record.place, record.count, record.part_count, record.taken
         extra = struct.pack("<cc6I", record.context.encode(), record.state.encode(), *numbers) + record.store + record.part
-        return packed("R", self.rooms, self.head, self.fill, extra)
+        return packed("R", *self.rooms, self.fill, self.head, extra)
 
     def replayed(self):
         """The line in stdout, and the calls behind it."""
@@ -747,25 +744,20 @@ def show(record):
 
 def write(folder, records):
     """Writes stdin and stdout."""
-    replayed = b"".join(record.packed() for record in records)
-    assert len(replayed) <= MOST_LIST_BYTES, "the program reads no more than that"
     lines, calls = [], []
     for record in records:
         line, made = record.replayed()
-        lines.append(line + "\n")
+        lines.append(line)
         calls += made
     check_covered(calls)
-    output = "".join(lines).encode()
-    folder.mkdir(parents=True, exist_ok=True)
-    (folder / "stdin").write_bytes(replayed)
-    (folder / "stdout").write_bytes(output)
-    print(f"{len(records)} records, {len(calls)} calls, stdin {len(replayed)} bytes, stdout {len(output)} bytes")
+    sizes = write_part(folder, b"S", (record.packed() for record in records), lines)
+    print(f"{len(records)} records, {len(calls)} calls, {sizes}")
 
 
 def main():
     """Check the model, then write stdin and stdout, or show a line."""
     if len(sys.argv) not in (2, 3):
-        sys.exit("usage: python3 tests/replay_stream.py crates/replay_stream [NUMBER]")
+        sys.exit("usage: python3 tests/replay_stream.py FOLDER [NUMBER]")
     check_names()
     check_examples()
     records = list(dict.fromkeys(all_records()))

@@ -4,16 +4,18 @@ Made from the paper alone: document 01 (what the bench reads, pieces, names, who
 its settled readings. No code of the project was looked at. The names come from Python's copy of the WHATWG list, well-formed UTF-8
 from the grammar in RFC 3629, section 4. Only the standard library is needed.
 
-    python3 tests/replay_whole.py crates/replay_whole
+    python3 tests/replay_whole.py FOLDER
 
-writes to that folder stdin, the records to be replayed, and stdout, one line for each:
+writes to that folder stdin, a list of records to be replayed, and stdout, one line for each. They are the first part of those of crates/replay,
+where `cat` puts the parts together; tests/replay does all of it.
 
-    record   kind, text room, error room, fill, n, then n bytes: 1 + 4 + 4 + 4 + 2 + n bytes, numbers little-endian;
+    list     the letter W, how many bytes the records have (4 bytes, little-endian), and the records
+    record   kind, text room, error room, fill, n, m: 1 + 4 + 4 + 4 + 2 + 2 bytes, numbers little-endian; then m bytes; then n bytes;
              the source is the n bytes and then `fill` times `x`;
-             kind is T or A (decode in text or in an attribute), t or a (escape in text or in attribute mode)
+             kind is T or A (decode in text or in an attribute), t or a (escape in text or in attribute mode), both with m = 0,
              or C or c (check in text or in an attribute), with the text's length and how many numbers the rows and errors are for its
-             rooms; the n bytes are then row bytes, error bytes, text bytes (2 + 2 + 2), so many of each, and the source's, and the
-             text too is filled up with `x`, to its length
+             rooms; the m bytes are then row bytes, error bytes (2 + 2), so many of each, and the text's, which is filled up with `x` to
+             its length
     decode   ANSWER TEXT ERRORS PLACE HEX CODE@PLACE CODE@PLACE ...
     escape   ANSWER TEXT PLACE HEX
     check    ANSWER VERDICT ROW PLACE
@@ -342,9 +344,25 @@ def check_examples():
 # ------------------------------------------------------------------------------------------------------------------- records, lines
 
 # What the replaying program has room for, and the longest text that a line shows in full.
-MOST_INPUT_BYTES = 640_000
+MOST_LIST_BYTES = 1_000_000
 MOST_TEXT_ROOM, MOST_ERROR_ROOM, MOST_CASE_BYTES = 400_000, 140_000, 66_000
 LONGEST_HEX = 600
+
+
+def packed(kind, text_room, error_room, fill, own, before=b""):
+    """A record as it stands in stdin: its head, what stands before the source, and the source's own bytes."""
+    assert text_room <= MOST_TEXT_ROOM and error_room <= MOST_ERROR_ROOM and len(own) + fill <= MOST_CASE_BYTES
+    return struct.pack("<cIIIHH", kind.encode(), text_room, error_room, fill, len(own), len(before)) + before + own
+
+
+def write_part(folder, letter, records, lines):
+    """Writes stdin, a list with its head, and stdout, its lines; says how long they are."""
+    listed = b"".join(records)
+    assert len(listed) <= MOST_LIST_BYTES, "the program reads no longer list"
+    folder.mkdir(parents=True, exist_ok=True)
+    stdin = (folder / "stdin").write_bytes(struct.pack("<cI", letter, len(listed)) + listed)
+    stdout = (folder / "stdout").write_bytes("".join(line + "\n" for line in lines).encode())
+    return f"stdin {stdin} bytes, stdout {stdout} bytes"
 
 
 class Record(NamedTuple):
@@ -362,8 +380,7 @@ class Record(NamedTuple):
 
     def packed(self):
         """The record as it stands in stdin."""
-        assert self.text_room <= MOST_TEXT_ROOM and self.error_room <= MOST_ERROR_ROOM and len(self.source) <= MOST_CASE_BYTES
-        return struct.pack("<cIIIH", self.kind.encode(), self.text_room, self.error_room, self.fill, len(self.head)) + self.head
+        return packed(self.kind, self.text_room, self.error_room, self.fill, self.head)
 
     def line(self):
         """The record's line in stdout."""
@@ -620,20 +637,14 @@ def all_records():
 def main():
     """Check the model, then write stdin and stdout."""
     if len(sys.argv) != 2:
-        sys.exit("usage: python3 tests/replay_whole.py crates/replay_whole")
+        sys.exit("usage: python3 tests/replay_whole.py FOLDER")
     check_names()
     check_examples()
     from transcripts import transcript_records  # not before: it is made of this file's model
     records = [*dict.fromkeys(all_records()), *transcript_records()]
-    folder = Path(sys.argv[1])
-    folder.mkdir(parents=True, exist_ok=True)
-    calls = b"".join(record.packed() for record in records)
-    assert len(calls) <= MOST_INPUT_BYTES, "the program reads no more than that"
-    lines = "".join(record.line() + "\n" for record in records).encode()
-    (folder / "stdin").write_bytes(calls)
-    (folder / "stdout").write_bytes(lines)
+    sizes = write_part(Path(sys.argv[1]), b"W", (record.packed() for record in records), (record.line() for record in records))
     kinds = ", ".join(f"{count} of {kind}" for kind, count in Counter(record.kind for record in records).items())
-    print(f"{len(records)} records ({kinds}), stdin {len(calls)} bytes, stdout {len(lines)} bytes")
+    print(f"{len(records)} records ({kinds}), {sizes}")
 
 
 if __name__ == "__main__":

@@ -5,9 +5,9 @@ replay_whole.py, which was made from it too. No code of the project was looked a
 
 tests/replay_whole.py writes these records after its own:
 
-    record   kind, text length, numbers, fill, n, then n bytes: 1 + 4 + 4 + 4 + 2 + n bytes, numbers little-endian;
+    record   kind, text length, numbers, fill, n, m: 1 + 4 + 4 + 4 + 2 + 2 bytes, numbers little-endian; then m bytes; then n bytes;
              kind is C or c (check in text or in an attribute);
-             the n bytes are row bytes, error bytes, text bytes (2 + 2 + 2), then so many of each, and then the source's;
+             the m bytes are row bytes, error bytes (2 + 2), then so many of each, and then the text's; the n bytes are the source's;
              after their bytes text and source have `x`, the text up to its length and the source `fill` times
     check    ANSWER VERDICT ROW PLACE
 
@@ -32,9 +32,8 @@ from typing import NamedTuple
 
 from replay_whole import (
     ATTRIBUTE, BEGINNINGS, BLOCK, C1_RANGE, CONTEXTS, ENDED, ERROR_5_RANGES, FAULTS, FAULT_SURROUNDINGS, ILL_FORMED, LAST_TWO_OF_EACH_PLANE,
-    LETTERS, MARKED_SOURCES, MOST_CASE_BYTES, MOST_ERROR_ROOM, MOST_SOURCE_BYTES, MOST_TEXT_ROOM, NAMES, NUL, NUMBER_RANGES, ONLY_RUN, TEXT,
-    TOO_LONG, ampersand_sources, decode_whole, enough_room, first_stop, line_break_sources, long_number_sources, neighbourhood, nul_sources,
-    piece_at, random_sources, short_sources,
+    LETTERS, MARKED_SOURCES, MOST_SOURCE_BYTES, NAMES, NUL, NUMBER_RANGES, ONLY_RUN, TEXT, TOO_LONG, ampersand_sources, decode_whole,
+    enough_room, first_stop, line_break_sources, long_number_sources, neighbourhood, nul_sources, packed, piece_at, random_sources, short_sources,
 )
 
 # ------------------------------------------------------------------------------------------------------------------ the model: check
@@ -155,11 +154,9 @@ class Call(NamedTuple):
 
     def packed(self):
         """The record as it stands in stdin."""
-        sizes = struct.pack("<HHH", len(self.rows), len(self.errors), len(self.own_text))
-        own = sizes + self.rows + self.errors + self.own_text + self.head
+        before = struct.pack("<HH", len(self.rows), len(self.errors)) + self.rows + self.errors + self.own_text
         numbers = len(self.rows) // NUMBER_BYTES + len(self.errors) // NUMBER_BYTES
-        assert len(own) + self.fill <= MOST_CASE_BYTES and len(self.text) <= MOST_TEXT_ROOM and numbers <= MOST_ERROR_ROOM
-        return struct.pack("<cIIIH", self.kind.encode(), len(self.text), numbers, self.fill, len(own)) + own
+        return packed(self.kind, len(self.text), numbers, self.fill, self.head, before)
 
     def line(self):
         """The record's line in stdout."""
