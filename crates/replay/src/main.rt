@@ -49,10 +49,18 @@ fn replay(
     at
 }
 
+// Replays a list, with rooms for its records.
+fn replay_list(letter: u8, list: &[u8]) -> usize {
+    let mut source = [0u8; 66000];
+    let mut text = [0u8; 400000];
+    let mut errors = [0u32; 140000];
+    replay(letter, list, &mut source, &mut text, &mut errors)
+}
+
 // A list by its letter.
-fn replay_list(letter: u8, list: &[u8], source: &mut [u8], text: &mut [u8], errors: &mut [u32]) {
+fn replay_known(letter: u8, list: &[u8]) {
     if letter == b'W' || letter == b'S' || letter == b'R' {
-        if replay(letter, list, source, text, errors) < list.len() {
+        if replay_list(letter, list) < list.len() {
             put_bytes(b"a record is cut short\n");
         }
     } else {
@@ -60,33 +68,27 @@ fn replay_list(letter: u8, list: &[u8], source: &mut [u8], text: &mut [u8], erro
     }
 }
 
-// Reads a list of some length and replays it. Answers whether it was there.
-fn read_list(
-    letter: u8,
-    size: usize,
-    list: &mut [u8],
-    source: &mut [u8],
-    text: &mut [u8],
-    errors: &mut [u32],
-) -> bool {
-    if list.len() < size {
+// Reads a list of some length into a buffer and replays it. Answers whether it was there: one that is longer than the buffer ends the program, as one
+// that is cut short does, with a line that says so.
+fn read_list(letter: u8, size: usize, buffer: &mut [u8]) -> bool {
+    if buffer.len() < size {
         put_bytes(b"a list is too long\n");
         return false;
     }
-    if io::read_full(STDIN_FILENO, &mut list[0..size]) < size {
+    if io::read_full(STDIN_FILENO, &mut buffer[0..size]) < size {
         put_bytes(b"a list is cut short\n");
         return false;
     }
-    replay_list(letter, &list[0..size], source, text, errors);
+    replay_known(letter, &buffer[0..size]);
     true
 }
 
 // Reads the next head, and its list. Answers whether more may follow.
-fn replay_next(list: &mut [u8], source: &mut [u8], text: &mut [u8], errors: &mut [u32]) -> bool {
+fn replay_next(buffer: &mut [u8]) -> bool {
     let mut head = [0u8; 5];
     let got = io::read_full(STDIN_FILENO, &mut head);
     if got == 5 {
-        return read_list(head[0], number_at(&head, 1), list, source, text, errors);
+        return read_list(head[0], number_at(&head, 1), buffer);
     }
     if 0 < got {
         put_bytes(b"a list's head is cut short\n");
@@ -95,10 +97,10 @@ fn replay_next(list: &mut [u8], source: &mut [u8], text: &mut [u8], errors: &mut
 }
 
 // Replays lists until nothing is left, or as many as are replayed at most. Answers whether more may follow.
-fn replay_lists(list: &mut [u8], source: &mut [u8], text: &mut [u8], errors: &mut [u32]) -> bool {
+fn replay_lists(buffer: &mut [u8]) -> bool {
     let mut count: usize = 0;
     while count < MOST_LISTS {
-        if !replay_next(list, source, text, errors) {
+        if !replay_next(buffer) {
             return false;
         }
         count += 1;
@@ -106,17 +108,13 @@ fn replay_lists(list: &mut [u8], source: &mut [u8], text: &mut [u8], errors: &mu
     true
 }
 
-fn replay_all(list: &mut [u8], source: &mut [u8], text: &mut [u8], errors: &mut [u32]) {
-    if replay_lists(list, source, text, errors) {
+fn replay_all(buffer: &mut [u8]) {
+    if replay_lists(buffer) {
         put_bytes(b"more lists may follow\n");
     }
 }
 
-// A list that is longer than its buffer ends the program, with a line that says so.
 fn main() {
-    let mut list = [0u8; 1000000];
-    let mut source = [0u8; 66000];
-    let mut text = [0u8; 400000];
-    let mut errors = [0u32; 140000];
-    replay_all(&mut list, &mut source, &mut text, &mut errors);
+    let mut buffer = [0u8; 1000000];
+    replay_all(&mut buffer);
 }

@@ -1,7 +1,7 @@
 // Rooms are marked before a call, so that it shows what the call touched.
-const BYTE: u8 = 0xEE;
+pub(crate) const BYTE: u8 = 0xEE;
 
-const NUMBER: u32 = 0xEEEEEEEE;
+pub(crate) const NUMBER: u32 = 0xEEEEEEEE;
 
 pub(crate) fn mark_bytes(room: &mut [u8]) {
     let mut at: usize = 0;

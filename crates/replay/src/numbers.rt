@@ -9,6 +9,10 @@ pub(crate) fn wide(byte: u8) -> usize
     byte as usize
 }
 
+pub(crate) fn widened(number: u32) -> usize {
+    number as usize
+}
+
 // The number of two bytes, the lower first.
 pub(crate) fn short_at(s: &[u8], at: usize) -> usize
     requires { ⌜ at + 2 ≤ length (now s) ⌝ }

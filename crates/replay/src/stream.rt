@@ -1,10 +1,15 @@
 // The stream: a record's runs, and the line that they make. tests/replay_stream.py has their form.
+ghost use Prim.Native.Nat.{_≤_};
+ghost use lib.ListN.{length};
 use crate::lines::end_line;
 use crate::lines::put_byte;
 use crate::lines::put_bytes;
 use crate::lines::put_half;
 use crate::lines::put_next;
-use crate::numbers::least;
+use crate::marks::BYTE;
+use crate::marks::NUMBER;
+use crate::marks::mark_bytes;
+use crate::marks::mark_numbers;
 use crate::sources::context_of;
 use crate::stream_calls::BARE;
 use crate::stream_calls::CALLS;
@@ -22,23 +27,11 @@ use crate::streams::put_stream;
 use crate::sums::mix;
 use std::num::wrapping_add_u32;
 
-// The least rooms of a call.
-const LEAST_TEXT: usize = 64;
-
-const LEAST_ERRORS: usize = 8;
-
-// The source in one way, not shown: its four digits. The tally of all ways takes it in.
-fn replay_cut(
-    kind: u8,
-    source: &[u8],
-    count: usize,
-    first: usize,
-    other: usize,
-    text: &mut [u8],
-    errors: &mut [u32],
-    all: &mut Tally,
-) {
-    let mut tally = [HIDDEN, 0, 0, 0];
+// The source in one way with the least rooms, not shown: its four digits. The tally of all ways takes it in.
+fn replay_cut(kind: u8, source: &[u8], count: usize, first: usize, other: usize, all: &mut Tally) {
+    let mut text = [BYTE; 64];
+    let mut errors = [NUMBER; 8];
+    let mut tally = [HIDDEN, 0, 0, 0, 0, 0];
     run(
         context_of(kind),
         source,
@@ -46,8 +39,8 @@ fn replay_cut(
         count,
         first,
         other,
-        text,
-        errors,
+        &mut text,
+        &mut errors,
         &mut tally,
     );
     put_half(tally[SUM]);
@@ -57,23 +50,23 @@ fn replay_cut(
 }
 
 // The source cut at every place but its end.
-fn replay_inner(kind: u8, source: &[u8], text: &mut [u8], errors: &mut [u32], all: &mut Tally) {
+fn replay_inner(kind: u8, source: &[u8], all: &mut Tally) {
     let mut cut: usize = 0;
     while cut < source.len() {
         let next = cut + 1;
-        replay_cut(kind, source, 2, cut, source.len(), text, errors, all);
+        replay_cut(kind, source, 2, cut, source.len(), all);
         cut = next;
     }
 }
 
-// MARKS CALLS SUM, between spaces. Answers how many calls touched what they had to leave.
-fn replay_cuts(kind: u8, source: &[u8], text: &mut [u8], errors: &mut [u32]) -> u32 {
+// MARKS CALLS SUM, after a space. Answers whether a call touched what it had to leave (1).
+fn replay_cuts(kind: u8, source: &[u8]) -> u32 {
     let size = source.len();
-    let mut all = [HIDDEN, 0, 0, 0];
+    let mut all = [HIDDEN, 0, 0, 0, 0, 0];
     put_byte(b' ');
-    replay_inner(kind, source, text, errors, &mut all);
-    replay_cut(kind, source, 2, size, size, text, errors, &mut all);
-    replay_cut(kind, source, size, 1, 1, text, errors, &mut all);
+    replay_inner(kind, source, &mut all);
+    replay_cut(kind, source, 2, size, size, &mut all);
+    replay_cut(kind, source, size, 1, 1, &mut all);
     put_next(all[CALLS]);
     put_next(all[SUM]);
     all[TOUCHED]
@@ -89,7 +82,7 @@ fn replay_given(
     touched: u32,
 ) {
     let count = lengths.len() / 2;
-    let mut tally = [BARE, 0, 0, touched];
+    let mut tally = [BARE, 0, 0, touched, 0, 0];
     let stream = run(
         context_of(kind),
         source,
@@ -106,12 +99,19 @@ fn replay_given(
     end_line(tally[TOUCHED] == 0);
 }
 
-// A source in all ways.
-fn replay_source(kind: u8, source: &[u8], lengths: &[u8], text: &mut [u8], errors: &mut [u32]) {
-    let bytes = least(LEAST_TEXT, text.len());
-    let numbers = least(LEAST_ERRORS, errors.len());
-    let touched = replay_cuts(kind, source, &mut text[0..bytes], &mut errors[0..numbers]);
-    replay_given(kind, source, lengths, text, errors, touched);
+// | CALL STREAM
+fn end_forged(forged: &[u8], text: &mut [u8], errors: &mut [u32], tally: &mut Tally)
+    requires { ⌜ 61 ≤ length (now forged) ⌝ }
+{
+    end(read_stream(forged), text, errors, tally);
+}
+
+// | CALL STREAM | CALL STREAM
+fn feed_forged(forged: &[u8], chunk: &[u8], text: &mut [u8], errors: &mut [u32], tally: &mut Tally)
+    requires { ⌜ 61 ≤ length (now forged) ⌝ }
+{
+    let fed = feed(read_stream(forged), chunk, text, errors, tally);
+    end(fed, text, errors, tally);
 }
 
 // | CALL STREAM | CALL STREAM | CALL STREAM
@@ -119,16 +119,30 @@ fn replay_forged(chunk: &[u8], forged: &[u8], text: &mut [u8], errors: &mut [u32
     if forged.len() < STREAM_BYTES {
         put_bytes(b" cut short\n");
     } else {
-        let stream = read_stream(forged);
-        let mut tally = [FULL, 0, 0, 0];
-        end(stream, text, errors, &mut tally);
-        let fed = feed(stream, chunk, text, errors, &mut tally);
-        end(fed.record, text, errors, &mut tally);
+        let mut tally = [FULL, 0, 0, 0, 0, 0];
+        end_forged(forged, text, errors, &mut tally);
+        feed_forged(forged, chunk, text, errors, &mut tally);
         end_line(tally[TOUCHED] == 0);
     }
 }
 
 // A record by its kind; `before` has the lengths of chunks or a stream.
+fn replay_marked(kind: u8, source: &[u8], before: &[u8], text: &mut [u8], errors: &mut [u32]) {
+    match kind {
+        b'T' | b'A' => replay_given(
+            kind,
+            source,
+            before,
+            text,
+            errors,
+            replay_cuts(kind, source),
+        ),
+        b't' | b'a' => replay_given(kind, source, before, text, errors, 0),
+        b'R' => replay_forged(source, before, text, errors),
+        _ => put_bytes(b" is another kind of record\n"),
+    }
+}
+
 pub(crate) fn replay_stream(
     kind: u8,
     source: &[u8],
@@ -137,10 +151,7 @@ pub(crate) fn replay_stream(
     errors: &mut [u32],
 ) {
     put_byte(kind);
-    match kind {
-        b'T' | b'A' => replay_source(kind, source, before, text, errors),
-        b't' | b'a' => replay_given(kind, source, before, text, errors, 0),
-        b'R' => replay_forged(source, before, text, errors),
-        _ => put_bytes(b" is another kind of record\n"),
-    }
+    mark_bytes(text);
+    mark_numbers(errors);
+    replay_marked(kind, source, before, text, errors);
 }

@@ -1,4 +1,7 @@
-// Calls of a stream: rooms are marked and lent, and what a call hands back goes into a tally and, where it is shown, into the line.
+// Calls of a stream: marked rooms are lent, and what a call hands back goes into a tally and, where it is shown, into the line. Then the rooms are
+// marked again.
+ghost use Prim.Native.Nat.{_≤_};
+ghost use lib.ListN.{length};
 use crate::lines::put_byte;
 use crate::lines::put_bytes;
 use crate::lines::put_counts;
@@ -18,8 +21,9 @@ use decoder::Fed;
 use decoder::Stream;
 use std::num::wrapping_add_u32;
 
-// What is kept of calls: how they are shown, how many there were, the sum of what they handed back, and how many touched what they had to leave.
-pub type Tally = [u32; 4];
+// What is kept of calls: how they are shown, how many there were, the sum of what they handed back, whether one touched what it had to leave (1), and
+// the last one's answer and bytes taken.
+pub type Tally = [u32; 6];
 
 pub(crate) const SHOW: usize = 0;
 
@@ -28,6 +32,10 @@ pub(crate) const CALLS: usize = 1;
 pub(crate) const SUM: usize = 2;
 
 pub(crate) const TOUCHED: usize = 3;
+
+pub(crate) const ANSWER: usize = 4;
+
+pub(crate) const TAKEN: usize = 5;
 
 // How calls are shown: not at all, without or with the stream after each.
 pub(crate) const HIDDEN: u32 = 0;
@@ -64,16 +72,28 @@ fn tell(show: u32, fed: Fed, text: &[u8], errors: &[u32]) -> u32 {
     mix_numbers(mix_bytes(answer, text), errors)
 }
 
-// A call more, whose rooms are given.
-fn count(fed: Fed, text: &[u8], errors: &[u32], tally: &mut Tally) {
-    let bytes = least(fed.text as usize, text.len());
-    let numbers = least(2 * fed.errors as usize, errors.len());
+// A call more, which wrote so much of its rooms.
+fn count(fed: Fed, text: &[u8], errors: &[u32], bytes: usize, numbers: usize, tally: &mut Tally)
+    requires { ⌜ bytes ≤ length (now text) ⌝ }
+    requires { ⌜ numbers ≤ length (now errors) ⌝ }
+{
     let sum = tell(tally[SHOW], fed, &text[0..bytes], &errors[0..numbers]);
     tally[CALLS] = wrapping_add_u32(tally[CALLS], 1);
     tally[SUM] = mix(tally[SUM], sum);
+    tally[ANSWER] = fed.answer;
+    tally[TAKEN] = fed.taken;
     if !bytes_marked(text, bytes) || !numbers_marked(errors, numbers) {
         tally[TOUCHED] = 1;
     }
+}
+
+// A call more, whose rooms are given.
+fn called(fed: Fed, text: &mut [u8], errors: &mut [u32], tally: &mut Tally) {
+    let bytes = least(fed.text as usize, text.len());
+    let numbers = least(2 * fed.errors as usize, errors.len());
+    count(fed, text, errors, bytes, numbers, tally);
+    mark_bytes(text);
+    mark_numbers(errors);
 }
 
 // A chunk is fed.
@@ -83,12 +103,10 @@ pub(crate) fn feed(
     text: &mut [u8],
     errors: &mut [u32],
     tally: &mut Tally,
-) -> Fed {
-    mark_bytes(text);
-    mark_numbers(errors);
+) -> Stream {
     let fed = stream.feed(chunk, text, errors);
-    count(fed, text, errors, tally);
-    fed
+    called(fed, text, errors, tally);
+    fed.record
 }
 
 // The stream is ended.
@@ -98,9 +116,7 @@ pub(crate) fn end(
     errors: &mut [u32],
     tally: &mut Tally,
 ) -> Stream {
-    mark_bytes(text);
-    mark_numbers(errors);
     let fed = stream.end(text, errors);
-    count(fed, text, errors, tally);
+    called(fed, text, errors, tally);
     fed.record
 }

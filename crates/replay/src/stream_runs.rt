@@ -1,11 +1,24 @@
 // Runs of calls, from a new stream to its end.
 use crate::numbers::after;
 use crate::numbers::short_at;
+use crate::numbers::widened;
+use crate::stream_calls::ANSWER;
+use crate::stream_calls::TAKEN;
 use crate::stream_calls::Tally;
 use crate::stream_calls::end;
 use crate::stream_calls::feed;
 use decoder::Stream;
 use standard::Context;
+
+// Whether the last call left bytes for want of room.
+fn left_some(tally: &Tally) -> bool {
+    tally[ANSWER] == 6
+}
+
+// How many bytes the last call took.
+fn taken(tally: &Tally) -> usize {
+    widened(tally[TAKEN])
+}
 
 // A chunk is fed, and what an answer 6 leaves of it again. Each such call takes a byte, so there is one call more than bytes at most.
 fn feed_chunk(
@@ -15,18 +28,18 @@ fn feed_chunk(
     errors: &mut [u32],
     tally: &mut Tally,
 ) -> Stream {
-    let mut fed = feed(stream, chunk, text, errors, tally);
+    let mut now = feed(stream, chunk, text, errors, tally);
     let mut at: usize = 0;
     let mut turn: usize = 0;
     while turn < chunk.len() {
         turn += 1;
-        if fed.answer != 6 {
+        if !left_some(tally) {
             break;
         }
-        at = after(at, fed.taken as usize, chunk.len());
-        fed = feed(fed.record, &chunk[at..], text, errors, tally);
+        at = after(at, taken(tally), chunk.len());
+        now = feed(now, &chunk[at..], text, errors, tally);
     }
-    fed.record
+    now
 }
 
 // The length of a chunk: that which stands among the given ones, two bytes each, or the first's or another's.

@@ -1,4 +1,4 @@
--- The arrays are long, so their lengths come by a law: computing one takes as many steps as it has elements.
+-- The array is long, so its length comes by a law: computing it takes as many steps as it has elements.
 use Prim.Native.Nat.{ℕ}
 use mathlib.Core.Path.{_≡_, sym}
 use lib.ListN.{length, replicate, length-replicate}
@@ -11,15 +11,6 @@ zeros n = sym (length-replicate {A = ℕ} n 0)
 slice-aggregate-replay-all : tie.Need-slice-aggregate-replay-all
 slice-aggregate-replay-all c = zeros 1000000
 
-slice-aggregate-replay-all-2 : tie.Need-slice-aggregate-replay-all-2
-slice-aggregate-replay-all-2 c = zeros 66000
-
-slice-aggregate-replay-all-3 : tie.Need-slice-aggregate-replay-all-3
-slice-aggregate-replay-all-3 c = zeros 400000
-
-slice-aggregate-replay-all-4 : tie.Need-slice-aggregate-replay-all-4
-slice-aggregate-replay-all-4 c = zeros 140000
-
 replay-all-requires : tie.Need-replay-all-requires
 replay-all-requires c κs = tt
 
@@ -31,8 +22,5 @@ main-spec =
     tie.close
     (tie.spec
     slice-aggregate-replay-all
-    slice-aggregate-replay-all-2
-    slice-aggregate-replay-all-3
-    slice-aggregate-replay-all-4
     replay-all-requires
     returns)

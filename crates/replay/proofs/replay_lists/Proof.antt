@@ -1,4 +1,4 @@
--- The invariant: the rooms keep their lengths.
+-- The invariant: the buffer keeps its length.
 use Prim.Native.Nat.{_-_}
 use mathlib.Core.Path.{_≡_}
 use lib.ListN.{length}
@@ -7,10 +7,10 @@ use Rattle.replay.proofs.replay_lists.Statement.{statement}
 use Rattle.replay.proofs.replay_lists.Tie as tie
 
 abbrev Inv-loop : tie.InvT-loop
-Inv-loop list₀ source₀ text₀ errors₀ count₀ list source text errors count = (length list ≡ length list₀) × (length source ≡ length source₀) × (length text ≡ length text₀) × (length errors ≡ length errors₀)
+Inv-loop buffer₀ count₀ buffer count = length buffer ≡ length buffer₀
 
 abbrev μ-loop : tie.MeasureT-loop
-μ-loop list₀ source₀ text₀ errors₀ count₀ list source text errors count = 1000 - count
+μ-loop buffer₀ count₀ buffer count = 1000 - count
 
 loop-holds : tie.Need-loop-holds Inv-loop μ-loop
 loop-holds c = search needs
@@ -20,15 +20,6 @@ replay-next-requires c κs = search needs
 
 same-length : tie.Need-same-length Inv-loop μ-loop
 same-length c = search needs
-
-same-length-2 : tie.Need-same-length-2 Inv-loop μ-loop
-same-length-2 c = search needs
-
-same-length-3 : tie.Need-same-length-3 Inv-loop μ-loop
-same-length-3 c = search needs
-
-same-length-4 : tie.Need-same-length-4 Inv-loop μ-loop
-same-length-4 c = search needs
 
 returns : tie.Need-returns Inv-loop μ-loop
 returns c = search needs
@@ -42,17 +33,8 @@ loop-less c = search needs
 loop-again : tie.Need-loop-again Inv-loop μ-loop
 loop-again c = search needs
 
-same-length-5 : tie.Need-same-length-5 Inv-loop μ-loop
-same-length-5 c = search needs
-
-same-length-6 : tie.Need-same-length-6 Inv-loop μ-loop
-same-length-6 c = search needs
-
-same-length-7 : tie.Need-same-length-7 Inv-loop μ-loop
-same-length-7 c = search needs
-
-same-length-8 : tie.Need-same-length-8 Inv-loop μ-loop
-same-length-8 c = search needs
+same-length-2 : tie.Need-same-length-2 Inv-loop μ-loop
+same-length-2 c = search needs
 
 returns-2 : tie.Need-returns-2 Inv-loop μ-loop
 returns-2 c = search needs
@@ -66,15 +48,9 @@ replay-lists-spec =
     loop-holds
     replay-next-requires
     same-length
-    same-length-2
-    same-length-3
-    same-length-4
     returns
     add-count
     loop-less
     loop-again
-    same-length-5
-    same-length-6
-    same-length-7
-    same-length-8
+    same-length-2
     returns-2)

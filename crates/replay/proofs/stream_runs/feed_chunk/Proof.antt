@@ -7,10 +7,10 @@ use Rattle.replay.proofs.stream_runs.feed_chunk.Statement.{statement}
 use Rattle.replay.proofs.stream_runs.feed_chunk.Tie as tie
 
 abbrev Inv-loop : tie.InvT-loop
-Inv-loop chunk text₀ errors₀ tally₀ fed₀ at₀ turn₀ text errors tally fed at turn = (at ≤ length chunk) × (length text ≡ length text₀) × (length errors ≡ length errors₀)
+Inv-loop chunk text₀ errors₀ tally₀ now₀ at₀ turn₀ text errors tally now at turn = (at ≤ length chunk) × (length text ≡ length text₀) × (length errors ≡ length errors₀)
 
 abbrev μ-loop : tie.MeasureT-loop
-μ-loop chunk text₀ errors₀ tally₀ fed₀ at₀ turn₀ text errors tally fed at turn = length chunk - turn
+μ-loop chunk text₀ errors₀ tally₀ now₀ at₀ turn₀ text errors tally now at turn = length chunk - turn
 
 feed-requires : tie.Need-feed-requires Inv-loop μ-loop
 feed-requires c κs = search needs
@@ -21,8 +21,11 @@ loop-holds c = search needs
 add-turn : tie.Need-add-turn Inv-loop μ-loop
 add-turn c = search needs
 
-cast-after : tie.Need-cast-after Inv-loop μ-loop
-cast-after c = search needs
+left-some-requires : tie.Need-left-some-requires Inv-loop μ-loop
+left-some-requires c κs = search needs
+
+taken-requires : tie.Need-taken-requires Inv-loop μ-loop
+taken-requires c κs = search needs
 
 after-requires : tie.Need-after-requires Inv-loop μ-loop
 after-requires c κs = search needs
@@ -54,6 +57,15 @@ same-length-2 c = search needs
 returns : tie.Need-returns Inv-loop μ-loop
 returns c = search needs
 
+same-length-3 : tie.Need-same-length-3 Inv-loop μ-loop
+same-length-3 c = search needs
+
+same-length-4 : tie.Need-same-length-4 Inv-loop μ-loop
+same-length-4 c = search needs
+
+returns-2 : tie.Need-returns-2 Inv-loop μ-loop
+returns-2 c = search needs
+
 pub feed-chunk-spec : {M : Type 1} → statement M
 feed-chunk-spec =
     tie.close
@@ -63,7 +75,8 @@ feed-chunk-spec =
     feed-requires
     loop-holds
     add-turn
-    cast-after
+    left-some-requires
+    taken-requires
     after-requires
     sub-feed
     part-feed-start
@@ -73,4 +86,7 @@ feed-chunk-spec =
     loop-again
     same-length
     same-length-2
-    returns)
+    returns
+    same-length-3
+    same-length-4
+    returns-2)
