@@ -7,7 +7,8 @@ use Rattle.replay.proofs.replay.Statement.{statement}
 use Rattle.replay.proofs.replay.Tie as tie
 
 abbrev Inv-loop : tie.InvT-loop
-Inv-loop letter list source₀ text₀ errors₀ at₀ source text errors at = (at ≤ length list) × (length source ≡ length source₀) × (length text ≡ length text₀) × (length errors ≡ length errors₀)
+Inv-loop letter list source₀ text₀ errors₀ at₀ source text errors at =
+    (at ≤ length list) × (length source ≡ length source₀) × (length text ≡ length text₀) × (length errors ≡ length errors₀)
 
 abbrev μ-loop : tie.MeasureT-loop
 μ-loop letter list source₀ text₀ errors₀ at₀ source text errors at = length list - at

@@ -7,7 +7,8 @@ use Rattle.replay.proofs.stream_runs.feed_chunk.Statement.{statement}
 use Rattle.replay.proofs.stream_runs.feed_chunk.Tie as tie
 
 abbrev Inv-loop : tie.InvT-loop
-Inv-loop chunk text₀ errors₀ tally₀ now₀ at₀ turn₀ text errors tally now at turn = (at ≤ length chunk) × (length text ≡ length text₀) × (length errors ≡ length errors₀)
+Inv-loop chunk text₀ errors₀ tally₀ now₀ at₀ turn₀ text errors tally now at turn =
+    (at ≤ length chunk) × (length text ≡ length text₀) × (length errors ≡ length errors₀)
 
 abbrev μ-loop : tie.MeasureT-loop
 μ-loop chunk text₀ errors₀ tally₀ now₀ at₀ turn₀ text errors tally now at turn = length chunk - turn

@@ -7,7 +7,8 @@ use Rattle.replay.proofs.stream_runs.feed_chunks.Statement.{statement}
 use Rattle.replay.proofs.stream_runs.feed_chunks.Tie as tie
 
 abbrev Inv-loop : tie.InvT-loop
-Inv-loop source lengths count first other text₀ errors₀ tally₀ now₀ at₀ turn₀ text errors tally now at turn = (at ≤ length source) × (length text ≡ length text₀) × (length errors ≡ length errors₀)
+Inv-loop source lengths count first other text₀ errors₀ tally₀ now₀ at₀ turn₀ text errors tally now at turn =
+    (at ≤ length source) × (length text ≡ length text₀) × (length errors ≡ length errors₀)
 
 abbrev μ-loop : tie.MeasureT-loop
 μ-loop source lengths count first other text₀ errors₀ tally₀ now₀ at₀ turn₀ text errors tally now at turn = count - turn
