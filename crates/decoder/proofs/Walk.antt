@@ -3,15 +3,15 @@ use Prim.Native.Nat.{ℕ, _+_, _-_, _*_, _/_, _≤_, _<_}
 use mathlib.Core.Path.{_≡_, refl, sym, _∙_, ap}
 use mathlib.Core.List.{List, []}
 use mathlib.Core.Bool.{Bool, true}
-use native.Mathlib.Nat.{zero-add, mul-comm, mul-le-mul-right}
+use native.Mathlib.Nat.{mul-comm, mul-le-mul-right}
 use native.Mathlib.Omega.{arith}
 use lib.ListN.{length, take, drop, length-append, length-drop, drop-of-length-le}
-use lib.Seq.{drop-drop, sets, sets-eq, take-append-seam}
+use lib.Seq.{drop-drop}
 use Rattle.lists.specs.Notation.{front}
 use Rattle.lists.specs.Bytes.{fours}
 use Rattle.lists.specs.Rooms.{Put}
 use Rattle.lists.proofs.Fronts.{front-is-take, front-length}
-use Rattle.lists.proofs.Puts.{put-length}
+use Rattle.lists.proofs.Puts.{put-length, take-written}
 use Rattle.lists.proofs.Layings.{Laying}
 use Rattle.standard.specs.declared.Context.{Context}
 use Rattle.standard.specs.Names.{Name, tableOf, records}
@@ -131,17 +131,13 @@ module _ {width : ℕ} {lay : List ℕ → List ℕ} (laid : Laying width lay) {
           put-length q,
         )
 
--- Numbers that were written at the start of an array stand there.
-take-sets : (l values : List ℕ) → length values ≤ length l → take (length values) (sets l 0 values) ≡ values
-take-sets l values h = rw (sets-eq values l 0 (omega arith), zero-add (length values)) (take-append-seam values (drop (length values) l))
-
 -- A reading whose numbers were written into an array, and from there as bytes.
 pub wrote-through : {r : Reading} {text text′ few few′ errors errors′ : List ℕ} {w w′ n e e′ : ℕ} → Wrote r text w text′ w′ few 0 few′ n
     → n ≤ length few → e + 4 * n ≤ length errors → Put errors e (fours (take ((length errors - e) / 4) (take n few′))) errors′ e′
     → WroteBy fours r text w text′ w′ errors e errors′ e′
 wrote-through {r} {few = few} {n = n} a h room p =
     let is : n ≡ length (numbers (r .errors)) = omega (arith, a .numbers-of .next-is) in
-    let all = rw (a .numbers-of .new-is, is, take-sets few (numbers (r .errors)) (omega arith)) at p in
+    let all = rw (a .numbers-of .new-is, is, take-written few (numbers (r .errors)) (length (numbers (r .errors))) refl (omega arith)) at p in
     record { texts = a .texts; numbers-of = numbers-fit (numbers (r .errors)) (omega arith) all }
 
 -- One turn of the decoder's loop over the built-in names: a run is copied, and then a piece is written.

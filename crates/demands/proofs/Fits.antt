@@ -1,11 +1,12 @@
 -- Document 01, 'The chunk decoder': what a call gives fits its text room and its error room (two numbers an error), whatever the record, so all of
 -- it is written. And 'in every call, room past what was written keeps its contents'.
-use Prim.Native.Nat.{ℕ, _+_, _*_, _≤_}
+use Prim.Native.Nat.{ℕ, _*_, _≤_}
 use mathlib.Core.Path.{_≡_, _∙_, ap}
 use mathlib.Core.List.{List, _++_}
 use native.Mathlib.Omega.{arith}
 use lib.ListN.{length, drop}
-use lib.Seq.{sets, sets-eq}
+use lib.Seq.{sets}
+use Rattle.lists.proofs.Puts.{sets-front}
 use Rattle.standard.specs.Errors.{numbers}
 use Rattle.standard.specs.NameList.{builtin}
 use Rattle.standard.proofs.Joining.{numbers-length}
@@ -26,9 +27,7 @@ end-fits = fitting.end-fits
 
 -- What every contract says of a room, where the values fit: they stand at its start, and after them it is as it was.
 pub room-after : (room values : List ℕ) → length values ≤ length room → sets room 0 values ≡ values ++ drop (length values) room
-room-after room values h =
-    let none : 0 + length values ≡ length values = omega arith in
-    sets-eq values room 0 (omega arith) ∙ ap (λ (n : ℕ). values ++ drop n room) none
+room-after = sets-front
 
 -- The rooms have what a call comes to, as many bytes and errors as its result says, and after these they are as they were.
 abbrev pub Stand : Outcome → Fed → (text errors text′ errors′ : List ℕ) → Type 0

@@ -11,6 +11,7 @@ use lib.Seq.{sets, length-sets}
 use Rattle.lists.specs.Notation.{if_then_else_}
 use Rattle.lists.specs.Bytes.{fours}
 use Rattle.lists.proofs.Choice.{no-way}
+use Rattle.lists.proofs.Puts.{take-written}
 use Rattle.lists.proofs.Layings.{laid-fours}
 use Rattle.standard.specs.declared.Context.{Context}
 use Rattle.standard.specs.Answers.{done, context-end}
@@ -24,7 +25,7 @@ use Rattle.decoder.specs.declared.whole.Decoded.{Decoded}
 use Rattle.decoder.specs.Whole.{decoded, DecodesBytes}
 use Rattle.demands.proofs.Laws.{text-short, errors-few, rooms-suffice}
 use Rattle.demands.proofs.ReportNumbers.{fours-say, written-read}
-use Rattle.demands.proofs.Transcript.{Accepted, asRow, front-written, one-row-passes, covered-length}
+use Rattle.demands.proofs.Transcript.{Accepted, asRow, one-row-passes, covered-length}
 use Rattle.demands.proofs.CheckAnswers as check-answers
 use Rattle.demands.proofs.WholeAnswers as whole-answers
 
@@ -57,7 +58,7 @@ module _ (context : Context) (source : List ℕ) (short : length source ≤ 6553
             (omega (arith, text-short context source, near, short), (omega (arith, few, near, short), tt)),
           ) in
           let text-there : take (length (whole .text)) (sets text 0 (whole .text)) ≡ whole .text =
-          front-written text (whole .text) (length (whole .text)) refl (omega (arith, rooms-suffice context source .0)) in
+          take-written text (whole .text) (length (whole .text)) refl (omega (arith, rooms-suffice context source .0)) in
           let count = ap (λ (x : Decoded). x .errors) (w .0) in
           let room : length errors′ ≡ length errors = ap length (w .2) ∙ length-sets errors 0 (fours (numbers (whole .errors))) in
           let long : length (take (8 * d .errors) errors′) % 4 ≡ 0 =

@@ -1,16 +1,17 @@
 -- Document 01, 'numbers in slices are four bytes, little-endian': four bytes say each number that the exports report, and each of the errors that are
 -- written, since it is below 2^32.
 use Prim.Native.Nat.{ℕ, zero, suc, _+_, _-_, _*_, _/_, _%_, _≤_, _<_}
-use mathlib.Core.Path.{_≡_, refl, sym, _∙_, ap}
+use mathlib.Core.Path.{_≡_, refl, _∙_, ap}
 use mathlib.Core.List.{List, [], _∷_}
 use mathlib.Core.Logic.{_⊎_, inl, inr}
 use native.Mathlib.Omega.{arith}
 use lib.Dec.{eqb}
 use lib.ListN.{length, take, length-append, length-take}
-use lib.Seq.{sets, sets-eq, take-append-seam}
+use lib.Seq.{sets}
 use Rattle.lists.specs.Bytes.{word32, fourBytes, fours, words}
 use Rattle.lists.proofs.Choice.{if-both}
 use Rattle.lists.proofs.Every.{All}
+use Rattle.lists.proofs.Puts.{take-written}
 use Rattle.lists.proofs.Layings.{laid-fours}
 use Rattle.standard.specs.declared.Context.{Context}
 use Rattle.standard.specs.Answers.{done, ill-formed, nul, too-long, context-end, room-asked, not-whole}
@@ -99,9 +100,9 @@ written-read context source errors count errors′ short roomy is written =
     let all = decode builtin context part .errors in
     let near = length-take (stopOf context source .place) source in
     let long : length (fours (numbers all)) ≡ 8 * count = omega (arith, laid-fours .long (numbers all), numbers-length all, is) in
-    let fits = sets-eq (fours (numbers all)) errors 0 (omega (arith, long, is, roomy, errors-few context source)) in
-    let front = ap (λ (k : ℕ). take k errors′) (sym long) ∙ ap (take (length (fours (numbers all)))) (written ∙ fits)
-    ∙ take-append-seam (fours (numbers all)) _ in
+    let front =
+    ap (take (8 * count)) written
+    ∙ take-written errors (fours (numbers all)) (8 * count) long (omega (arith, long, is, roomy, errors-few context source)) in
     ap words front ∙ fours-say (numbers all) (numbers-small (length part) all (omega (arith, near, short)) (errors-placed builtin context part))
 
 -- With 0 and 7 the errors that `decode_bytes` wrote are read back: as many as its answer says, and they are the standard's.

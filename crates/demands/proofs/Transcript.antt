@@ -7,11 +7,12 @@ use mathlib.Core.Bool.{true}
 use mathlib.Core.Logic.{_↔_, inl, inr}
 use native.Mathlib.Omega.{arith}
 use lib.Dec.{eqb}
-use lib.ListN.{length, take, drop, length-take}
-use lib.Seq.{sets, take-append-seam}
+use lib.ListN.{length, take, length-take}
+use lib.Seq.{sets}
 use Rattle.lists.specs.Notation.{if_then_else_}
 use Rattle.lists.proofs.Choice.{no-way}
 use Rattle.lists.proofs.Every.{All}
+use Rattle.lists.proofs.Puts.{take-written}
 use Rattle.lists.proofs.Layings.{laid-plainly}
 use Rattle.standard.specs.declared.Context.{Context}
 use Rattle.standard.specs.Answers.{done, context-end}
@@ -26,7 +27,6 @@ use Rattle.checker.specs.Transcript.{rowsOf, Left, left, total, right, remains,
 use Rattle.checker.proofs.RowLaws.{pieces-total}
 use Rattle.decoder.specs.declared.whole.Decoded.{Decoded}
 use Rattle.decoder.specs.Whole.{decoded, Decodes}
-use Rattle.demands.proofs.Fits.{room-after}
 use Rattle.demands.proofs.Lines.{Line, LineOf}
 use Rattle.demands.proofs.Laws.{rooms-suffice}
 use Rattle.demands.proofs.RightRows.{none, Good, Remains, FirstWrong, together, rowsFor, inThrees, column}
@@ -161,10 +161,6 @@ empty-passes context source short reads empty c is = accepts-exactly context sou
 abbrev pub asRow : List ℕ → Decoded → List ℕ
 asRow source d = (if eqb (d .answer) context-end then d .place else length source) ∷ d .text ∷ d .errors ∷ []
 
--- What was written at the start of a room is what is taken from there.
-pub front-written : (room t : List ℕ) (n : ℕ) → n ≡ length t → length t ≤ length room → take n (sets room 0 t) ≡ t
-front-written room t n e fits = rw (e, room-after room t fits) (take-append-seam t (drop (length t) room))
-
 module _ (context : Context) (source : List ℕ) (short : length source ≤ 65536) (reads : readable context source ≡ true)
     (some : 0 < length (covered context source)) where
   -- Without rows every transcript of a covered part that isn't empty is refused.
@@ -207,11 +203,11 @@ module _ (context : Context) (source : List ℕ) (short : length source ≤ 6553
     whole-passes text-room error-room c is = go (stops-with context source)
       where
         text-there : take (length (whole .text)) (sets text 0 (whole .text)) ≡ whole .text
-        text-there = front-written text (whole .text) (length (whole .text)) refl (omega (arith, rooms-suffice context source .0))
+        text-there = take-written text (whole .text) (length (whole .text)) refl (omega (arith, rooms-suffice context source .0))
 
         errors-there : take (2 * length (whole .errors)) (sets errors 0 (numbers (whole .errors))) ≡ numbers (whole .errors)
         errors-there =
-            front-written errors (numbers (whole .errors)) (2 * length (whole .errors)) (omega (arith, numbers-length (whole .errors)))
+            take-written errors (numbers (whole .errors)) (2 * length (whole .errors)) (omega (arith, numbers-length (whole .errors)))
             (omega (arith, rooms-suffice context source .1))
 
         passes : (answer place : ℕ)

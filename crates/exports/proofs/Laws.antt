@@ -4,9 +4,10 @@ use mathlib.Core.Path.{_≡_, refl, _∙_, ap}
 use mathlib.Core.List.{List, [], _∷_, _++_, append-nil}
 use native.Mathlib.Omega.{arith}
 use lib.ListN.{length, drop-of-length-le}
-use lib.Seq.{sets, sets-eq}
+use lib.Seq.{sets}
 use borrow.Author.Tests.{eq-eqb, ne-eqb}
 use Rattle.lists.specs.Bytes.{fours}
+use Rattle.lists.proofs.Puts.{sets-front}
 use Rattle.standard.specs.declared.Context.{Context}
 use Rattle.standard.specs.NameList.{builtin}
 use Rattle.decoder.specs.declared.whole.Decoded.{Decoded}
@@ -23,7 +24,7 @@ pub report-whole : (report : List ℕ) (a b c d : ℕ) → length report ≡ 16 
 unfolding fours
 report-whole report a b c d h =
     let numbers = fours (a ∷ b ∷ c ∷ d ∷ []) in
-    sets-eq numbers report 0 (omega arith) ∙ ap (λ (l : List ℕ). numbers ++ l) (drop-of-length-le report {i = 16} (omega arith)) ∙ append-nil numbers
+    sets-front report numbers (omega arith) ∙ ap (λ (l : List ℕ). numbers ++ l) (drop-of-length-le report {i = 16} (omega arith)) ∙ append-nil numbers
 
 -- 5 for another report length.
 pub asked-length : {A : Type 0} (report : List ℕ) (text attribute : A) (number : ℕ) (gives : A → Given) → (length report ≡ 16 → ⊥)

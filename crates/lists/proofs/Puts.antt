@@ -4,8 +4,8 @@ use mathlib.Core.Path.{_≡_, refl, sym, _∙_, ap}
 use mathlib.Core.List.{List, [], _∷_, _++_}
 use native.Mathlib.Omega.{arith}
 use native.Mathlib.Numerals.{add-one}
-use lib.ListN.{length, getD, drop, set, length-append, drop-of-length-le}
-use lib.Seq.{drop-cons, sets, length-sets}
+use lib.ListN.{length, getD, take, drop, set, length-append, drop-of-length-le}
+use lib.Seq.{drop-cons, sets, length-sets, sets-eq, take-at}
 use Rattle.lists.specs.Rooms.{Put}
 
 -- Joined values are written one after the other.
@@ -33,6 +33,16 @@ put-join {old} {mid} {new} {at} {m} {next} {u} {v} a b = record {
 -- Writing leaves the room's length.
 pub put-length : {old new : List ℕ} {at next : ℕ} {u : List ℕ} → Put old at u new next → length new ≡ length old
 put-length {old} {new} {at} {next} {u} a = ap length (a .new-is) ∙ length-sets old at u
+
+-- Values that fit a room stand at its start, and after them it is as it was.
+pub sets-front : (room values : List ℕ) → length values ≤ length room → sets room 0 values ≡ values ++ drop (length values) room
+sets-front room values h =
+    let none : 0 + length values ≡ length values = omega arith in
+    sets-eq values room 0 (omega arith) ∙ ap (λ (n : ℕ). values ++ drop n room) none
+
+-- As many as were written are taken from there again.
+pub take-written : (room values : List ℕ) (n : ℕ) → length values ≡ n → length values ≤ length room → take n (sets room 0 values) ≡ values
+take-written room values n e h = rw (sets-front room values h) (take-at values (drop (length values) room) n e)
 
 -- The rest of a list is written by one value and then the rest after it.
 pub sets-drop : (l h : List ℕ) (o i : ℕ) → i < length h → sets l o (drop i h) ≡ sets (set l o (getD h i 0)) (o + 1) (drop (i + 1) h)

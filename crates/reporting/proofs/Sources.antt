@@ -1,15 +1,15 @@
 -- What is written of a source after `decode_whole` has read it, one law for each way that it stops.
 use Prim.Native.Nat.{ℕ, _+_, _*_, _≤_}
 use Prim.Native.Char.{code}
-use mathlib.Core.Path.{_≡_, refl, sym, _∙_, ap}
+use mathlib.Core.Path.{_≡_, sym, _∙_, ap}
 use mathlib.Core.List.{List, [], _∷_, _++_, append-assoc}
 use mathlib.Core.Bool.{true}
 use mathlib.Core.Logic.{inl, inr}
 use native.Mathlib.Omega.{arith}
-use lib.ListN.{length, take, drop, length-take, length-append}
-use lib.Seq.{sets, sets-eq, take-at, length-sets}
+use lib.ListN.{length, take, length-take, length-append}
+use lib.Seq.{sets, length-sets}
 use Rattle.lists.specs.Rooms.{Put}
-use Rattle.lists.proofs.Puts.{put-join, put-length}
+use Rattle.lists.proofs.Puts.{put-join, put-length, take-written}
 use Rattle.standard.specs.declared.Context.{Context}
 use Rattle.standard.specs.Utf8.{bytes}
 use Rattle.standard.specs.Answers.{done, context-end}
@@ -26,10 +26,6 @@ use Rattle.reporting.specs.Report.{decimal, pair, line, closingLine, sou
 use Rattle.reporting.specs.Lines.{pairLines, afterText, Roomy, Fills}
 use Rattle.reporting.proofs.Bound.{source-bound}
 use Rattle.reporting.proofs.LineLaws.{pair-lines}
-
--- What was written at the front of a room stands there.
-front-written : (l vs : List ℕ) → length vs ≤ length l → take (length vs) (sets l 0 vs) ≡ vs
-front-written l vs h = rw (sets-eq vs l 0 (omega arith)) (take-at vs (drop (0 + length vs) l) (length vs) refl)
 
 -- The reading of a source.
 abbrev readingOf : Context → List ℕ → Reading
@@ -153,7 +149,7 @@ module _ {context : Context} {s out errors out′ errors′ : List ℕ} {r : Dec
 
     -- They are those of the errors.
     numbers-front : take (2 * r .errors) errors′ ≡ numbers (readingOf context s .errors)
-    numbers-front = rw (read .numbers-of, read .count) (front-written errors (numbers (readingOf context s .errors)) numbers-fit)
+    numbers-front = rw (read .numbers-of) (take-written errors (numbers (readingOf context s .errors)) (2 * r .errors) (sym (read .count)) numbers-fit)
 
     module _ (word : List ℕ) (place : ℕ) (e : closingLine (stopOf context s) (length s) ≡ line (word ++ decimal place)) where
       -- What stands after the text has room.
