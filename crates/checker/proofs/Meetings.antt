@@ -179,21 +179,14 @@ module _ (numbers bytes : List ℕ) (at : ℕ) where
   pub lent-byte : length numbers ≡ 0 → at < length (lent numbers bytes) → word32 bytes (4 * at) ≡ getD (lent numbers bytes) at 0
   lent-byte e h = rw (eq-eqb (length numbers) 0 e) (sym (words-at bytes at (lent-bytes e h)))
 
-  -- There are no bytes.
-  pub lent-all-words : length bytes ≡ 0 → lent numbers bytes ≡ numbers
-  unfolding words
-  lent-all-words e = rw (empty bytes e) (by numbers)
-    where
-      empty : (l : List ℕ) → length l ≡ 0 → l ≡ []
-      empty [] e = refl
-      empty (a ∷ l) e = absurd (omega arith)
-
-      by : (l : List ℕ) → lent l [] ≡ l
-      by [] = refl
-      by (a ∷ l) = rw (ne-eqb (length (a ∷ l)) 0 (λ z. omega arith))
-
   pub lent-words : length numbers ≢ 0 → at < length (lent numbers bytes) → at < length numbers
   lent-words e h = rw (ne-eqb (length numbers) 0 e) at h
+
+-- There are no bytes.
+pub lent-all-words : (numbers : List ℕ) → lent numbers [] ≡ numbers
+unfolding words
+lent-all-words [] = refl
+lent-all-words (n ∷ numbers) = rw (ne-eqb (length (n ∷ numbers)) 0 (λ z. omega arith))
 
 -- A number's bytes do not stand where no character is read.
 pub other-read : (s : List ℕ) (c : ℕ) (r : CharRead) → readChar s ≡ r → OneOf (1 ∷ 2 ∷ 3 ∷ []) (tagOf the-type r) → stands (encode c) s ≡ false

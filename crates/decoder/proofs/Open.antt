@@ -12,7 +12,7 @@ use lib.Seq.{length-take-le, take-suc, take-all, take-append-seam, getD-take}
 use borrow.Author.Tests.{eq-eqb, eqb-true, ltb-true, lt-ltb, le-leb}
 use Rattle.lists.specs.Notation.{if_then_else_}
 use Rattle.lists.proofs.Choice as choice
-use Rattle.lists.proofs.Choice.{no-way, or-true}
+use Rattle.lists.proofs.Choice.{no-way, or-true, length-none}
 use Rattle.lists.proofs.Nexts.{next-at}
 use Rattle.standard.specs.declared.Context.{Context}
 use Rattle.standard.specs.Classes.{alphanumeric}
@@ -178,11 +178,6 @@ name-some (suc (suc k)) (c ∷ s) two there =
     ap (λ (i : ℕ). getD h i 0) (let e : length h - 1 ≡ k = omega (arith, n) in e) ∙ getD-take (suc k) s k 0 (omega arith) in
     rw (less, lt-ltb 0 (length h) (omega (arith, n)), and-true (eqb c (code "&")), held-by-last h (omega (arith, n)), last)
 
--- A list of no elements is empty.
-nothing-is : (s : List ℕ) → eqb (length s) 0 ≡ true → s ≡ []
-nothing-is [] e = refl
-nothing-is (c ∷ s) e = absurd (omega (arith, eqb-true (suc (length s)) 0 e))
-
 -- `&#x` or `&#X`, as a list with its letter.
 hex-intro : (s : List ℕ) → isHexIntro s ≡ true → (letter : ℕ) × (isX letter ≡ true) × (s ≡ code "&" ∷ code "#" ∷ letter ∷ [])
 hex-intro s e = ⊎-elim (λ f. (code "x", refl, same-equal s _ f)) (λ f. (code "X", refl, same-equal s _ f)) (or-true _ _ e)
@@ -217,8 +212,8 @@ open-fits h e = fits-by (h .state) (h .place) (take (h .count) (h .store)) e
 -- A store that is what the state says is the state's own.
 pub store-back : (k : State) (q : ℕ) (s : List ℕ) → holds builtin k s ≡ true → storeOf (stBy k q s) ≡ s
 unfolding holds stBy storeOf
-store-back kind.Data q s e = sym (nothing-is s e)
-store-back kind.AfterCr q s e = sym (nothing-is s e)
+store-back kind.Data q s e = sym (length-none s e)
+store-back kind.AfterCr q s e = sym (length-none s e)
 store-back kind.Begin q s e = sym (same-equal s _ e)
 store-back kind.Octothorpe q s e = sym (same-equal s _ e)
 store-back kind.HexBegin q s e = let w = hex-intro s e in rw (w .2)
@@ -227,7 +222,7 @@ store-back kind.Named q [] e = no-way (sym e)
 store-back kind.Named q (c ∷ s) e =
     let w = choice.and-true (eqb c (code "&") && ltb 0 (length s)) (heldName builtin s) e in
     ap (λ (b : ℕ). b ∷ s) (sym (eqb-true c (code "&") (choice.and-true (eqb c (code "&")) (ltb 0 (length s)) (w .0) .0)))
-store-back kind.BogusName q s e = sym (nothing-is s e)
+store-back kind.BogusName q s e = sym (length-none s e)
 store-back kind.Closed q s e = no-way (sym e)
 
 -- A number that is within the limits stays.

@@ -10,7 +10,7 @@ use lib.ListN.{length, drop, length-append}
 use lib.Seq.{take-append-seam, drop-append-seam, drop-at}
 use borrow.Author.Tests.{eqb-true, eqb-false, eq-eqb, ne-eqb, le-ltb, lt-ltb}
 use Rattle.lists.specs.Notation.{if_then_else_}
-use Rattle.lists.proofs.Choice.{no-way, test?, below?, and-true}
+use Rattle.lists.proofs.Choice.{no-way, test?, below?, and-true, length-none}
 use Rattle.lists.proofs.Every.{All}
 use Rattle.standard.specs.Errors.{numbers}
 use Rattle.standard.specs.Names.{stands}
@@ -171,11 +171,7 @@ spent-of : (l : Left) → spent l ≡ true → Spent l
 spent-of l e =
     let w = and-true (eqb (length (l .pieces)) 0 && eqb (length (l .text)) 0) (eqb (length (l .errors)) 0) e in
     let v = and-true (eqb (length (l .pieces)) 0) (eqb (length (l .text)) 0) (w .0) in
-    (empty (l .pieces) (v .0), empty (l .text) (v .1), empty (l .errors) (w .1))
-  where
-    empty : {A : Type 0} (s : List A) → eqb (length s) 0 ≡ true → s ≡ []
-    empty [] e = refl
-    empty (a ∷ s) e = absurd (omega (arith, eqb-true (length (a ∷ s)) 0 e))
+    (length-none (l .pieces) (v .0), length-none (l .text) (v .1), length-none (l .errors) (w .1))
 
 spent-test : (l : Left) → Spent l → spent l ≡ true
 spent-test l s = rw (s .0, s .1, s .2)

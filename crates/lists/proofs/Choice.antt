@@ -1,10 +1,12 @@
--- Laws of a choice by a test, and of tests on numbers.
+-- Laws of a choice by a test, and of tests on numbers and lengths.
 use Prim.Native.Nat.{ℕ, _≤_, _<_}
 use mathlib.Core.Path.{_≡_, refl, subst}
+use mathlib.Core.List.{List, []}
 use mathlib.Core.Bool.{Bool, true, false, _&&_, _||_, and-eq-true-iff}
 use mathlib.Core.Logic.{_⊎_, inl, inr, ⊎-elim, ⊎-map}
 use native.Mathlib.Omega.{arith}
-use lib.Dec.{T, ltb, leb}
+use lib.Dec.{T, ltb, leb, eqb}
+use lib.ListN.{length, drop-of-length-le}
 use borrow.Author.Tests.{le-leb, lt-leb, ltb-true, ltb-false, leb-true, leb-false, eqb-true, eqb-false}
 use Rattle.lists.specs.Notation.{if_then_else_, between}
 
@@ -50,3 +52,7 @@ outside-between a b c (inr h) = ⊎-elim (λ e. rw e (lt-leb c b h)) (λ e. rw e
 -- A number that passes a range's test is in it.
 pub between-true : (a b c : ℕ) → between a b c ≡ true → (a ≤ c) × (c ≤ b)
 between-true a b c e = let w = and-true (leb a c) (leb c b) e in (leb-true a c (w .0), leb-true c b (w .1))
+
+-- A list whose length is tested to be 0 is empty.
+pub length-none : {A : Type 0} (l : List A) → eqb (length l) 0 ≡ true → l ≡ []
+length-none l e = drop-of-length-le l {i = 0} (omega (arith, eqb-true (length l) 0 e))

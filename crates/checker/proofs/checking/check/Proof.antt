@@ -1,5 +1,4 @@
-use mathlib.Core.Path.{refl, _∙_}
-use mathlib.Core.List.{[]}
+use mathlib.Core.Path.{_∙_}
 use borrow.Author.Needs.{needs}
 use Rattle.checker.proofs.Meetings.{lent-all-words}
 use Rattle.checker.proofs.checking.check.Statement.{statement}
@@ -14,7 +13,7 @@ check-numbers-requires c κs = search needs
 returns : tie.Need-returns
 returns c =
     let a = c .before .before .before .before .before .before .args in
-    c .check-numbers .ensures ∙ rw (lent-all-words (a .rows .now) [] 0 refl, lent-all-words (a .errors .now) [] 0 refl)
+    c .check-numbers .ensures ∙ rw (lent-all-words (a .rows .now), lent-all-words (a .errors .now))
 
 pub check-spec : {M : Type 1} → statement M
 check-spec = tie.close (tie.spec slice-aggregate-none check-numbers-requires returns)
