@@ -1,15 +1,13 @@
 -- Document 01, 'numbers in slices are four bytes, little-endian': four bytes say each number that the exports report, and each of the errors that are
 -- written, since it is below 2^32.
-use Prim.Native.Nat.{ℕ, zero, suc, _+_, _-_, _*_, _/_, _%_, _≤_, _<_}
+use Prim.Native.Nat.{ℕ, _+_, _*_, _/_, _%_, _≤_, _<_}
 use mathlib.Core.Path.{_≡_, refl, _∙_, ap}
 use mathlib.Core.List.{List, [], _∷_}
 use mathlib.Core.Logic.{_⊎_, inl, inr}
 use native.Mathlib.Omega.{arith}
-use lib.Dec.{eqb}
 use lib.ListN.{length, take, length-append, length-take}
 use lib.Seq.{sets}
 use Rattle.lists.specs.Bytes.{word32, fourBytes, fours, words}
-use Rattle.lists.proofs.Choice.{if-both}
 use Rattle.lists.proofs.Every.{All}
 use Rattle.lists.proofs.Puts.{take-written}
 use Rattle.lists.proofs.Layings.{laid-fours}
@@ -17,10 +15,9 @@ use Rattle.standard.specs.declared.Context.{Context}
 use Rattle.standard.specs.Answers.{done, ill-formed, nul, too-long, context-end, room-asked, not-whole}
 use Rattle.standard.specs.Errors.{Error, numbers}
 use Rattle.standard.specs.NameList.{builtin}
-use Rattle.standard.specs.Reading.{answerTo, sizeOf, Stop, stopFrom, stopOf, covered, pieces, decode}
-use Rattle.standard.specs.Utf8.{readChar}
+use Rattle.standard.specs.Reading.{stopOf, covered, pieces, decode}
 use Rattle.standard.proofs.Joining.{numbers-length}
-use Rattle.standard.proofs.Stops.{stop-place}
+use Rattle.standard.proofs.Stops.{stop-within, stop-place}
 use Rattle.decoder.specs.declared.whole.Decoded.{Decoded}
 use Rattle.decoder.specs.Whole.{DecodesBytes}
 use Rattle.escaper.specs.declared.Mode.{Mode}
@@ -133,16 +130,6 @@ verdict-small l rows sized = let v = some-verdict l rows sized in rw (judge-says
     by (remaining g) = (omega arith, cuts-few (g .cuts))
     by (first-wrong w) = (omega (arith, wrong-between (w .wrong) .1), cuts-few (w .cuts))
 
--- An input of `escape` stops within its bytes.
-stop-near : (k place : ℕ) (s : List ℕ) → stopFrom (λ c. done) k place s .place ≤ place + length s
-unfolding stopFrom
-stop-near zero place [] = omega arith
-stop-near (suc k) place [] = omega arith
-stop-near zero place (b ∷ s) =
-    if-both (λ (x : Stop). x .place ≤ place + length (b ∷ s)) (eqb (answerTo (λ c. done) (readChar (b ∷ s))) done) _ _
-    (λ t. omega (arith, stop-near (sizeOf (readChar (b ∷ s)) - 1) (suc place) s)) (λ f. omega arith)
-stop-near (suc k) place (b ∷ s) = omega (arith, stop-near k (suc place) s)
-
 -- Those of an answer of `escape`, and no errors.
 pub escape-small : {e : Escaped} {out′ : List ℕ} (mode : Mode) (input out : List ℕ) → Escapes mode input out e out′
     → All Small (e .answer ∷ e .text ∷ 0 ∷ e .place ∷ [])
@@ -157,7 +144,7 @@ escape-small {e} {out′} mode input out w = go (escape-answers.no-other mode in
     go (inl x) = let l = escape-answers.line-3 mode input out e out′ w in given (l .so (l .only x) .0) (omega arith) (omega arith) (omega arith)
     go (inr (inl x)) =
         let l = escape-answers.line-1 mode input out e out′ w in
-        given (l .so (l .only x) .0) (omega arith) (omega arith) (omega (arith, l .only x .0, stop-near 0 0 input))
+        given (l .so (l .only x) .0) (omega arith) (omega arith) (omega (arith, l .only x .0, stop-within (λ c. done) 0 0 input .0))
     go (inr (inr (inl x))) =
         let l = escape-answers.line-9 mode input out e out′ w in
         given (l .so (l .only x) .0) (omega arith) (omega (arith, l .only x .0 .0, escape-six mode input)) (omega arith)

@@ -53,11 +53,11 @@ stop-read calls place [] = ap (stops done) (omega arith)
 stop-read calls place (b ∷ s) = stop-unfold calls place (b ∷ s) (omega arith)
 
 -- A stop is within the bytes up to end, and where all is done it is after them all.
-abbrev Within : ℕ → Stop → Type 0
+abbrev pub Within : ℕ → Stop → Type 0
 Within end r = (r .place ≤ end) × (r .answer ≡ done → r .place ≡ end)
 
 -- A source stops within its bytes.
-stop-within : (calls : ℕ → ℕ) (k place : ℕ) (s : List ℕ) → Within (place + length s) (stopFrom calls k place s)
+pub stop-within : (calls : ℕ → ℕ) (k place : ℕ) (s : List ℕ) → Within (place + length s) (stopFrom calls k place s)
 unfolding stopFrom
 stop-within calls zero place [] = (omega arith, λ e. omega arith)
 stop-within calls (suc k) place [] = (omega arith, λ e. omega arith)
