@@ -3,7 +3,7 @@ use Prim.Native.Nat.{ℕ, zero, suc, _-_}
 use Prim.Native.Char.{code}
 use mathlib.Core.Path.{_≡_}
 use mathlib.Core.List.{List, [], _∷_, _++_}
-use mathlib.Core.Bool.{Bool, true, false, _&&_}
+use mathlib.Core.Bool.{Bool, true, false, _||_, _&&_}
 use lib.Dec.{ltb, eqb}
 use lib.ListN.{length, take}
 use lib.Seq.{sets}
@@ -72,7 +72,7 @@ escapedOf mode s room =
     let answer : ℕ = answerOf mode s room in
     record {
       answer = answer;
-      text = if eqb answer done then length (escape mode s) else if eqb answer room-asked then length (escape mode s) else 0;
+      text = if eqb answer done || eqb answer room-asked then length (escape mode s) else 0;
       place = if eqb answer ill-formed then stopOf s .place else 0;
     }
 
