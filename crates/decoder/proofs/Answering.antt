@@ -23,7 +23,7 @@ use Rattle.standard.proofs.Narrow.{builtin-narrow}
 use Rattle.standard.proofs.Joining.{numbers-length}
 use Rattle.standard.proofs.Stops.{stop-done, OneOf, stops-with}
 use Rattle.decoder.specs.declared.whole.Decoded.{Decoded}
-use Rattle.decoder.specs.Whole.{decoded, answerOf, writtenOf, textNamed, placeNamed, decodedOf, DecodesBy}
+use Rattle.decoder.specs.Whole.{RoomFor, NoRoomFor, decoded, answerOf, writtenOf, textNamed, placeNamed, decodedOf, DecodesBy}
 
 -- What is written with an answer.
 abbrev pub writtenWith : Context → List ℕ → ℕ → Reading
@@ -32,13 +32,6 @@ writtenWith context s answer =
 
 -- Rooms of so many bytes and numbers.
 module _ (context : Context) (s : List ℕ) (text errors : ℕ) where
-  -- The rooms that are asked for.
-  abbrev pub Room : Type 0
-  Room = (length s + 64 ≤ text) × (2 * length s + 8 ≤ errors)
-
-  abbrev pub NoRoom : Type 0
-  NoRoom = (text < length s + 64) ⊎ (errors < 2 * length s + 8)
-
   -- 3.
   pub answers-too-long : 65536 < length s → answerOf context s text errors ≡ too-long
   unfolding answerOf
@@ -46,16 +39,16 @@ module _ (context : Context) (s : List ℕ) (text errors : ℕ) where
 
   module _ (short : length s ≤ 65536) where
     -- 9.
-    pub answers-asked : NoRoom → answerOf context s text errors ≡ room-asked
+    pub answers-asked : NoRoomFor s text errors → answerOf context s text errors ≡ room-asked
     unfolding answerOf
     answers-asked h = rw (le-ltb 65536 (length s) short) (go h)
       where
-        go : NoRoom → (if ltb text (length s + 64) || ltb errors (2 * length s + 8) then 9 else stopOf context s .answer) ≡ 9
+        go : NoRoomFor s text errors → (if ltb text (length s + 64) || ltb errors (2 * length s + 8) then 9 else stopOf context s .answer) ≡ 9
         go (inl k) = rw (lt-ltb text (length s + 64) k)
         go (inr k) = rw (lt-ltb errors (2 * length s + 8) k) (⊎-elim (λ e. rw e) (λ e. rw e) (test? (ltb text (length s + 64))))
 
     -- With room, the answer is why the source stops.
-    pub stops-so : Room → answerOf context s text errors ≡ stopOf context s .answer
+    pub stops-so : RoomFor s text errors → answerOf context s text errors ≡ stopOf context s .answer
     unfolding answerOf
     stops-so room =
         rw (le-ltb 65536 (length s) short, le-ltb text (length s + 64) (room .0), le-ltb errors (2 * length s + 8) (room .1))
@@ -63,8 +56,8 @@ module _ (context : Context) (s : List ℕ) (text errors : ℕ) where
   -- What an answer is given for: 3, 9, and else why the source stops.
   abbrev pub For : ℕ → Type 0
   For a =
-      (a ≡ too-long → 65536 < length s) × (a ≡ room-asked → (length s ≤ 65536) × NoRoom)
-      × ((a ≡ too-long → ⊥) → (a ≡ room-asked → ⊥) → (length s ≤ 65536) × Room × (stopOf context s .answer ≡ a))
+      (a ≡ too-long → 65536 < length s) × (a ≡ room-asked → (length s ≤ 65536) × NoRoomFor s text errors)
+      × ((a ≡ too-long → ⊥) → (a ≡ room-asked → ⊥) → (length s ≤ 65536) × RoomFor s text errors × (stopOf context s .answer ≡ a))
 
   other : (a n : ℕ) → OneOf a → (n ≡ too-long) ⊎ (n ≡ room-asked) → a ≡ n → ⊥
   other a n (inl k) (inl h) e = omega arith
@@ -79,10 +72,10 @@ module _ (context : Context) (s : List ℕ) (text errors : ℕ) where
   long : 65536 < length s → For (answerOf context s text errors)
   long h = rw (answers-too-long h) (λ e. h, λ e. absurd (omega arith), λ x y. absurd (x refl))
 
-  asked : length s ≤ 65536 → NoRoom → For (answerOf context s text errors)
+  asked : length s ≤ 65536 → NoRoomFor s text errors → For (answerOf context s text errors)
   asked short h = rw (answers-asked short h) (λ e. absurd (omega arith), λ e. (short, h), λ x y. absurd (y refl))
 
-  stopped : length s ≤ 65536 → Room → For (answerOf context s text errors)
+  stopped : length s ≤ 65536 → RoomFor s text errors → For (answerOf context s text errors)
   stopped short room =
       let one = stops-with context s in
       rw (stops-so short room)
@@ -99,7 +92,7 @@ module _ (context : Context) (s : List ℕ) (text errors : ℕ) where
 
   -- A source with another answer is not too long, has its room, and stops so.
   pub stopped-for : (a : ℕ) → answerOf context s text errors ≡ a → (a ≡ too-long → ⊥) → (a ≡ room-asked → ⊥)
-      → (length s ≤ 65536) × Room × (stopOf context s .answer ≡ a)
+      → (length s ≤ 65536) × RoomFor s text errors × (stopOf context s .answer ≡ a)
   stopped-for a e x y = subst For e answered-for .2 x y
 
 -- A source that stops, and is not done, is answered so.

@@ -1,8 +1,9 @@
 -- Document 01, 'Whole-slice calls', decode whole: the answer, and what is written.
-use Prim.Native.Nat.{ℕ, _+_, _*_, _/_}
+use Prim.Native.Nat.{ℕ, _+_, _*_, _/_, _≤_, _<_}
 use mathlib.Core.Path.{_≡_}
 use mathlib.Core.List.{List, []}
 use mathlib.Core.Bool.{_||_}
+use mathlib.Core.Logic.{_⊎_}
 use lib.Dec.{ltb, eqb}
 use lib.ListN.{length}
 use lib.Seq.{sets}
@@ -21,6 +22,13 @@ textRoom n = text-bound n + 64
 
 abbrev pub errorRoom : ℕ → ℕ
 errorRoom n = 2 * errors-bound n + 8
+
+-- Rooms of so many text bytes and error numbers are what a source asks for, and aren't.
+abbrev pub RoomFor : (source : List ℕ) (text errors : ℕ) → Type 0
+RoomFor s text errors = (textRoom (length s) ≤ text) × (errorRoom (length s) ≤ errors)
+
+abbrev pub NoRoomFor : (source : List ℕ) (text errors : ℕ) → Type 0
+NoRoomFor s text errors = (text < textRoom (length s)) ⊎ (errors < errorRoom (length s))
 
 -- An answer, given its number, text bytes, errors and place.
 abbrev pub decoded : (answer text errors place : ℕ) → Decoded

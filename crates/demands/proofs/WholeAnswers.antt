@@ -16,23 +16,16 @@ use Rattle.standard.specs.Errors.{numbers}
 use Rattle.standard.specs.NameList.{builtin}
 use Rattle.standard.specs.Reading.{stopOf, covered, Reading, reading, decode}
 use Rattle.decoder.specs.declared.whole.Decoded.{Decoded}
-use Rattle.decoder.specs.Whole.{decoded, answerOf, textNamed, placeNamed, DecodesBy}
+use Rattle.decoder.specs.Whole.{RoomFor, NoRoomFor, decoded, answerOf, textNamed, placeNamed, DecodesBy}
 use Rattle.decoder.proofs.Answering.{writtenWith, answer-says, answer-is, answers-too-long, answers-asked, stops-so, answered-for, stopped-for}
 use Rattle.standard.proofs.Stops.{OneOf, stops-with}
 use Rattle.demands.proofs.Lines.{Line, line}
 
 module _ {width : ℕ} {lay : List ℕ → List ℕ} (laid : Laying width lay) (room : ℕ) (context : Context) (s text errors : List ℕ) (r : Decoded)
     (text′ errors′ : List ℕ) (d : DecodesBy lay room context s text errors r text′ errors′) where
-  -- The rooms that are asked for.
-  abbrev Room : Type 0
-  Room = (length s + 64 ≤ length text) × (2 * length s + 8 ≤ room)
-
-  abbrev NoRoom : Type 0
-  NoRoom = (length text < length s + 64) ⊎ (room < 2 * length s + 8)
-
   -- The source is not too long, has its room, and stops with an answer.
   abbrev Stops : ℕ → Type 0
-  Stops answer = (length s ≤ 65536) × Room × (stopOf context s .answer ≡ answer)
+  Stops answer = (length s ≤ 65536) × RoomFor s (length text) room × (stopOf context s .answer ≡ answer)
 
   -- The result, and rooms that nothing was written to.
   abbrev Refused : (answer asked place : ℕ) → Type 0
@@ -71,7 +64,7 @@ module _ {width : ℕ} {lay : List ℕ → List ℕ} (laid : Laying width lay) (
   line-3 = line answer too-long _ _ is (answers-too-long context s (length text) room) (answered-for context s (length text) room .0)
       (λ e. unwritten 3 e refl)
 
-  pub line-9 : Line (r .answer) room-asked ((length s ≤ 65536) × NoRoom) (Refused room-asked (length s + 64) 0)
+  pub line-9 : Line (r .answer) room-asked ((length s ≤ 65536) × NoRoomFor s (length text) room) (Refused room-asked (length s + 64) 0)
   line-9 =
       line answer room-asked _ _ is (λ w. answers-asked context s (length text) room (w .0) (w .1))
       (answered-for context s (length text) room .1) (λ e. unwritten 9 e refl)
