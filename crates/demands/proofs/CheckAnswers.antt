@@ -4,14 +4,14 @@ use Prim.Native.Nat.{ℕ, _%_, _≤_, _<_}
 use mathlib.Core.Path.{_≡_, refl, sym, _∙_, ap, subst}
 use mathlib.Core.List.{List}
 use mathlib.Core.Bool.{true, false, not, _||_, _&&_}
-use mathlib.Core.Logic.{_⊎_, inl, inr, ⊎-elim, ⊎-map}
+use mathlib.Core.Logic.{_⊎_, inl, inr, ⊎-elim}
 use native.Mathlib.Omega.{arith}
 use lib.Dec.{eqb}
 use lib.ListN.{length}
-use borrow.Author.Tests.{le-ltb, eqb-true, eqb-false, eq-eqb}
+use borrow.Author.Tests.{le-ltb, eqb-true, eq-eqb}
 use Rattle.lists.specs.Notation.{if_then_else_}
 use Rattle.lists.specs.Bytes.{words}
-use Rattle.lists.proofs.Choice.{no-way, test?, below?, and-true}
+use Rattle.lists.proofs.Choice.{no-way, test?, same?, below?, and-true}
 use Rattle.standard.specs.declared.Context.{Context}
 use Rattle.standard.specs.Answers.{done, ill-formed, nul, too-long, context-end, not-whole}
 use Rattle.standard.specs.NameList.{builtin}
@@ -181,20 +181,19 @@ module _ (context : Context) (source rows text errors : List ℕ) (c : Checked) 
   pub bytes-10 : length source ≤ 65536 → (Fours → ⊥) → c ≡ checked not-whole (verdict right 0) 0
   bytes-10 short odd =
       is
-      ∙ sym (⊎-elim
-      (λ t. let whole = eqb-true (length rows % 4) 0 t in bytes-errors context source rows text errors short whole (λ e. odd (whole, e)))
-      (λ f. bytes-rows context source rows text errors short (eqb-false (length rows % 4) 0 f)) (test? (eqb (length rows % 4) 0)))
+      ∙ sym (⊎-elim (λ whole. bytes-errors context source rows text errors short whole (λ e. odd (whole, e)))
+      (bytes-rows context source rows text errors short) (same? (length rows % 4) 0))
 
   pub bytes-as-words : length source ≤ 65536 → Fours → c ≡ checkedOf builtin context source (words rows) text (words errors)
   bytes-as-words short whole = is ∙ sym (bytes-checked context source rows text errors short (whole .0) (whole .1))
 
-  -- The answer by which of the three it is.
-  by-bytes : (A : Type 0) → (65536 < length source → A) → (length source ≤ 65536 → (Fours → ⊥) → A) → (length source ≤ 65536 → Fours → A) → A
+  -- What holds in each of these three cases holds.
+  pub by-bytes : (A : Type 0) → (65536 < length source → A) → (length source ≤ 65536 → (Fours → ⊥) → A) → (length source ≤ 65536 → Fours → A) → A
   by-bytes A over odd whole =
       ⊎-elim over
       (λ s. ⊎-elim
-      (λ a. ⊎-elim (λ b. whole s (a, b)) (λ b. odd s (λ w. b (w .1))) (⊎-map (eqb-true _ 0) (eqb-false _ 0) (test? (eqb (length errors % 4) 0))))
-      (λ a. odd s (λ w. a (w .0))) (⊎-map (eqb-true _ 0) (eqb-false _ 0) (test? (eqb (length rows % 4) 0)))) (below? 65536 (length source))
+      (λ a. ⊎-elim (λ b. whole s (a, b)) (λ b. odd s (λ w. b (w .1))) (same? (length errors % 4) 0))
+      (λ a. odd s (λ w. a (w .0))) (same? (length rows % 4) 0)) (below? 65536 (length source))
 
   -- Rows and errors are whole numbers, in threes and in pairs.
   abbrev pub WholeBytes : Type 0

@@ -3,14 +3,12 @@
 use Prim.Native.Nat.{ℕ, _*_, _/_, _%_, _≤_}
 use mathlib.Core.Path.{_≡_, refl, sym, _∙_, ap}
 use mathlib.Core.List.{List, [], _∷_}
-use mathlib.Core.Logic.{_⊎_, inl, inr, ⊎-elim, ⊎-map}
+use mathlib.Core.Logic.{_⊎_, inl, inr, ⊎-elim}
 use native.Mathlib.Omega.{arith}
-use lib.Dec.{eqb}
 use lib.ListN.{length, drop}
 use lib.Seq.{sets}
-use borrow.Author.Tests.{eqb-true, eqb-false}
-use Rattle.lists.specs.Bytes.{fours, words}
-use Rattle.lists.proofs.Choice.{test?, below?}
+use Rattle.lists.specs.Bytes.{fours}
+use Rattle.lists.proofs.Choice.{same?}
 use Rattle.lists.proofs.Layings.{laid-fours}
 use Rattle.standard.specs.declared.Context.{Context}
 use Rattle.standard.specs.declared.Context.the-variants.{Text, Attribute}
@@ -24,7 +22,7 @@ use Rattle.escaper.specs.declared.Mode.the-variants as mode
 use Rattle.escaper.specs.declared.Escaped.{Escaped}
 use Rattle.escaper.specs.Escape.{writtenOf, escapedOf, Escapes}
 use Rattle.checker.specs.declared.checking.Checked.{Checked}
-use Rattle.checker.specs.Transcript.{right, verdict, checked, checkedOf, checkedBytes}
+use Rattle.checker.specs.Transcript.{verdict, checkedBytes}
 use Rattle.exports.specs.Exports.{Given, untouched, meant, contextOf, modeOf, asked, decodes, escapes, checks, Gives}
 use Rattle.exports.proofs.Laws.{report-whole, asked-length, asked-text, asked-attribute, asked-other}
 use Rattle.demands.proofs.Lines.{Line}
@@ -43,9 +41,6 @@ WrongUse report number = RightUse report number → ⊥
 -- The report holds four numbers, and the first of them is returned.
 abbrev pub Reports : (r : ℕ) (report′ : List ℕ) (answer second third place : ℕ) → Type 0
 Reports r report′ answer second third place = (r ≡ answer) × (report′ ≡ fours (answer ∷ second ∷ third ∷ place ∷ []))
-
-same? : (a b : ℕ) → (a ≡ b) ⊎ (a ≡ b → ⊥)
-same? a b = ⊎-map (eqb-true a b) (eqb-false a b) (test? (eqb a b))
 
 -- `decode_bytes` answers as `decode_whole` does where the error room has as many numbers, writes the same text, and the same numbers as bytes.
 pub decode-as-whole : {d w : Decoded} {text′ errors′ text″ room′ : List ℕ} (context : Context) (source text errors room : List ℕ)
@@ -170,29 +165,6 @@ module _ (number : ℕ) (input out report : List ℕ) (r : ℕ) (out′ report�
 
   pub escape-attribute : length report ≡ 16 → number ≡ 1 → AsEscape mode.Attribute
   escape-attribute h e = escape-used mode.Attribute h (asked-attribute report mode.Text mode.Attribute number (escapes input out) h e)
-
--- What `check_bytes` answers: 3, 10, or what `check` does for the numbers.
-abbrev pub BytesCases : Context → (source rows text errors : List ℕ) → Type 0
-BytesCases context source rows text errors =
-    let c : Checked = checkedBytes builtin context source rows text errors in
-    (c ≡ checked too-long (verdict right 0) 0)
-    ⊎ ((c ≡ checked not-whole (verdict right 0) 0) ⊎ (c ≡ checkedOf builtin context source (words rows) text (words errors)))
-
-pub bytes-cases : (context : Context) (source rows text errors : List ℕ) → BytesCases context source rows text errors
-bytes-cases context source rows text errors =
-    ⊎-elim (λ h. inl (check-answers.bytes-3 context source rows text errors c refl h)) short (below? 65536 (length source))
-  where
-    c : Checked
-    c = checkedBytes builtin context source rows text errors
-
-    odd : length source ≤ 65536 → ((length rows % 4 ≡ 0) × (length errors % 4 ≡ 0) → ⊥) → BytesCases context source rows text errors
-    odd h w = inr (inl (check-answers.bytes-10 context source rows text errors c refl h w))
-
-    short : length source ≤ 65536 → BytesCases context source rows text errors
-    short h =
-        ⊎-elim
-        (λ a. ⊎-elim (λ b. inr (inr (check-answers.bytes-as-words context source rows text errors c refl h (a, b)))) (λ b. odd h (λ w. b (w .1)))
-        (same? (length errors % 4) 0)) (λ a. odd h (λ w. a (w .0))) (same? (length rows % 4) 0)
 
 -- `plankskein_check`.
 module _ (number : ℕ) (source rows text errors report : List ℕ) (r : ℕ) (report′ : List ℕ)

@@ -32,7 +32,7 @@ use Rattle.demands.proofs.Reaching.{Sized, pieces-sized, total-least}
 use Rattle.demands.proofs.Judging.{wrong-between, RowsAre, good, first-wrong, remaining, rowOf, judge-says, some-verdict}
 use Rattle.demands.proofs.Laws.{text-short, errors-few, escape-six}
 use Rattle.demands.proofs.DecodedBytes.{Did, refused, read, did}
-use Rattle.demands.proofs.Exports.{Reports, BytesCases, bytes-cases}
+use Rattle.demands.proofs.Exports.{Reports}
 use Rattle.demands.proofs.WholeAnswers as whole-answers
 use Rattle.demands.proofs.EscapeAnswers as escape-answers
 use Rattle.demands.proofs.CheckAnswers as check-answers
@@ -155,7 +155,12 @@ escape-small {e} {out′} mode input out w = go (escape-answers.no-other mode in
 -- Those of an answer of `check_bytes`.
 pub check-small : {c : Checked} (context : Context) (source rows text errors : List ℕ) → c ≡ checkedBytes builtin context source rows text errors
     → All Small (c .answer ∷ c .verdict ∷ c .row ∷ c .place ∷ [])
-check-small {c} context source rows text errors is = go (bytes-cases context source rows text errors)
+check-small {c} context source rows text errors is =
+    check-answers.by-bytes context source rows text errors c is _
+    (λ h. refusal too-long 0 (check-answers.bytes-3 context source rows text errors c is h) (omega arith) (omega arith))
+    (λ s o. refusal not-whole 0 (check-answers.bytes-10 context source rows text errors c is s o) (omega arith) (omega arith))
+    (λ s f. let k = check-answers.bytes-as-words context source rows text errors c is s f in
+    looked k (check-answers.no-other context source (words rows) text (words errors) c k))
   where
     given : {answer place : ℕ} (v : Verdict) → c ≡ checked answer v place → Small answer → Small (v .reason) → Small (v .at-row) → Small place
         → All Small (c .answer ∷ c .verdict ∷ c .row ∷ c .place ∷ [])
@@ -189,8 +194,3 @@ check-small {c} context source rows text errors is = go (bytes-cases context sou
         given (verdictOn builtin context (covered context source) (words rows) text (words errors)) (l .so (l .only x)) (omega arith)
         (omega (arith, small .0)) (omega (arith, small .1, few, all, l .only x .0 .0, length-take (stopOf context source .place) source))
         (omega arith)
-
-    go : BytesCases context source rows text errors → All Small (c .answer ∷ c .verdict ∷ c .row ∷ c .place ∷ [])
-    go (inl e) = refusal too-long 0 (is ∙ e) (omega arith) (omega arith)
-    go (inr (inl e)) = refusal not-whole 0 (is ∙ e) (omega arith) (omega arith)
-    go (inr (inr e)) = looked (is ∙ e) (check-answers.no-other context source (words rows) text (words errors) c (is ∙ e))

@@ -27,6 +27,10 @@ pub test? : (t : Bool) → (t ≡ true) ⊎ (t ≡ false)
 test? true = inl refl
 test? false = inr refl
 
+-- Two numbers are the same, or they are not.
+pub same? : (a b : ℕ) → (a ≡ b) ⊎ (a ≡ b → ⊥)
+same? a b = ⊎-map (eqb-true a b) (eqb-false a b) (test? (eqb a b))
+
 -- One number is below the other, or it is not.
 pub below? : (a b : ℕ) → (a < b) ⊎ (b ≤ a)
 below? a b = ⊎-map (ltb-true a b) (ltb-false a b) (test? (ltb a b))
