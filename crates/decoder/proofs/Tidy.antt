@@ -13,7 +13,7 @@ use Rattle.lists.proofs.Choice.{no-way, and-true}
 use Rattle.lists.proofs.Every.{All, every-all, all-member}
 use Rattle.standard.specs.declared.names.Found.{Found}
 use Rattle.standard.specs.Classes.{alphanumeric}
-use Rattle.standard.specs.Names.{Name, stands, nothing, foundAs, longer, longestFrom, longest, begins}
+use Rattle.standard.specs.Names.{Name, stands, no-name, foundAs, longer, longestFrom, longest, begins}
 use Rattle.standard.specs.NameList.{builtin}
 use Rattle.standard.proofs.Computing.{computing}
 use Rattle.standard.proofs.Longest.{longest-most}
@@ -155,7 +155,7 @@ settled-from (n ∷ names) found h b t e =
 pub settled : (names : List Name) (h : List ℕ) (b : ℕ) (t : List ℕ) → begins names (h ++ b ∷ []) ≡ false
     → longest names (h ++ b ∷ t) ≡ longest names h
 unfolding longest
-settled names = settled-from names nothing
+settled names = settled-from names no-name
 
 -- What is held and closed can't be outgrown.
 closed-from : (names : List Name) (found : Found) (h t : List ℕ) → Tidy names → Alphanumerics h
@@ -171,7 +171,7 @@ closed-from (n ∷ names) found h t tidy al =
 pub closed : (names : List Name) (h t : List ℕ) → Tidy names → Alphanumerics h
     → longest names ((h ++ code ";" ∷ []) ++ t) ≡ longest names (h ++ code ";" ∷ [])
 unfolding longest
-closed names = closed-from names nothing
+closed names = closed-from names no-name
 
 -- What begins some name begins a name of the list.
 pub begins-some : (names : List Name) (s : List ℕ) → begins names s ≡ true → (n : Name) × List·Memᴰ n names × (stands s (n .word) ≡ true)

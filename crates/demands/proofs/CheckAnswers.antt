@@ -28,12 +28,12 @@ Answer a = (a ≡ too-long) ⊎ ((a ≡ not-whole) ⊎ ((a ≡ ill-formed) ⊎ (
 
 module _ (context : Context) (source rows text errors : List ℕ) where
   -- The rows are in threes, and the errors in pairs.
-  abbrev pub Whole : Type 0
-  Whole = (length rows % 3 ≡ 0) × (length errors % 2 ≡ 0)
+  abbrev pub ThreesAndPairs : Type 0
+  ThreesAndPairs = (length rows % 3 ≡ 0) × (length errors % 2 ≡ 0)
 
   -- The source is not too long, and rows and errors are whole: the source is read.
   abbrev pub Looked : Type 0
-  Looked = (length source ≤ 65536) × Whole
+  Looked = (length source ≤ 65536) × ThreesAndPairs
 
   -- Where the source stops.
   abbrev stop : Stop
@@ -46,18 +46,18 @@ module _ (context : Context) (source rows text errors : List ℕ) where
   -- What each answer is given for.
   data When : ℕ → Type 0 where
     long : 65536 < length source → When too-long
-    part : length source ≤ 65536 → (Whole → ⊥) → When not-whole
+    part : length source ≤ 65536 → (ThreesAndPairs → ⊥) → When not-whole
     no-character : Looked → stop .answer ≡ ill-formed → When ill-formed
     nul-character : Looked → stop .answer ≡ nul → When nul
     reads : Looked → readable context source ≡ true → When done
 
   -- Rows and errors are whole where the test says so, and only there.
-  whole-of : eqb (length rows % 3) 0 && eqb (length errors % 2) 0 ≡ true → Whole
+  whole-of : eqb (length rows % 3) 0 && eqb (length errors % 2) 0 ≡ true → ThreesAndPairs
   whole-of t =
       let w = and-true (eqb (length rows % 3) 0) (eqb (length errors % 2) 0) t in
       (eqb-true (length rows % 3) 0 (w .0), eqb-true (length errors % 2) 0 (w .1))
 
-  whole-test : Whole → eqb (length rows % 3) 0 && eqb (length errors % 2) 0 ≡ true
+  whole-test : ThreesAndPairs → eqb (length rows % 3) 0 && eqb (length errors % 2) 0 ≡ true
   whole-test w = rw (eq-eqb (length rows % 3) 0 (w .0), eq-eqb (length errors % 2) 0 (w .1))
 
   -- The whole answer.
@@ -69,7 +69,7 @@ module _ (context : Context) (source rows text errors : List ℕ) where
   says-long h = sym (check-long context source rows text errors h)
 
   -- 10.
-  says-part : length source ≤ 65536 → (Whole → ⊥) → all ≡ checked not-whole (verdict right 0) 0
+  says-part : length source ≤ 65536 → (ThreesAndPairs → ⊥) → all ≡ checked not-whole (verdict right 0) 0
   unfolding checkedOf
   says-part short no-whole =
       rw (le-ltb 65536 (length source) short)
@@ -133,10 +133,10 @@ module _ (context : Context) (source rows text errors : List ℕ) where
         only : When too-long → 65536 < length source
         only (long h) = h
 
-    pub line-10 : Line (c .answer) not-whole ((length source ≤ 65536) × (Whole → ⊥)) (Refused not-whole 0)
+    pub line-10 : Line (c .answer) not-whole ((length source ≤ 65536) × (ThreesAndPairs → ⊥)) (Refused not-whole 0)
     line-10 = by-when not-whole _ _ only (λ w. part (w .0) (w .1)) (λ w e. e ∙ says-part (w .0) (w .1))
       where
-        only : When not-whole → (length source ≤ 65536) × (Whole → ⊥)
+        only : When not-whole → (length source ≤ 65536) × (ThreesAndPairs → ⊥)
         only (part short no-whole) = (short, no-whole)
 
     pub line-1 : Line (c .answer) ill-formed (Looked × (stop .answer ≡ ill-formed)) (Refused ill-formed (stop .place))
@@ -197,7 +197,7 @@ module _ (context : Context) (source rows text errors : List ℕ) (c : Checked) 
 
   -- Rows and errors are whole numbers, in threes and in pairs.
   abbrev pub WholeBytes : Type 0
-  WholeBytes = Fours × Whole context source (words rows) text (words errors)
+  WholeBytes = Fours × ThreesAndPairs context source (words rows) text (words errors)
 
   answers : {a : ℕ} (v : Verdict) (place : ℕ) → c ≡ checked a v place → c .answer ≡ a
   answers v place e = ap (λ (x : Checked). x .answer) e

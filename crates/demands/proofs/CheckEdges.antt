@@ -13,7 +13,7 @@ use Rattle.checker.specs.declared.checking.Checked.{Checked}
 use Rattle.checker.specs.Transcript.{rowsOf, total, reached, wrong, verdict, judge, checked, checkedOf}
 
 -- A transcript of a source: the numbers of its rows, its text, and the numbers of its errors; and the answer.
-pub record Judged : Type 0 where
+pub record CheckRow : Type 0 where
   pub context : Context
   pub source : String
   pub rows : List ℕ
@@ -22,14 +22,14 @@ pub record Judged : Type 0 where
   pub answer : Checked
 
 -- A transcript that is answered so, and one that is answered 0 with a verdict on a row.
-abbrev pub answers : Context → String → List ℕ → String → List ℕ → Checked → Judged
+abbrev pub answers : Context → String → List ℕ → String → List ℕ → Checked → CheckRow
 answers context source rows text errors answer =
     record { context = context; source = source; rows = rows; text = text; errors = errors; answer = answer }
 
-abbrev pub judged : Context → String → List ℕ → String → List ℕ → (reason row : ℕ) → Judged
+abbrev pub judged : Context → String → List ℕ → String → List ℕ → (reason row : ℕ) → CheckRow
 judged context source rows text errors reason row = answers context source rows text errors (checked 0 (verdict reason row) 0)
 
-abbrev pub table : List Judged
+abbrev pub table : List CheckRow
 table =
     judged Text "&notit;x" (8 ∷ 6 ∷ 1 ∷ []) "¬it;x" (2 ∷ 0 ∷ []) 0 0
     ∷ judged Text "&notit;x" (4 ∷ 2 ∷ 1 ∷ 1 ∷ 1 ∷ 0 ∷ 3 ∷ 3 ∷ 0 ∷ []) "¬it;x" (2 ∷ 0 ∷ []) 0 0
@@ -62,7 +62,7 @@ table =
     ∷ []
 
 -- What the definitions give.
-abbrev pub gives : Judged → Checked
+abbrev pub gives : CheckRow → Checked
 gives j = checkedOf builtin (j .context) (bytes (j .source)) (j .rows) (bytes (j .text)) (j .errors)
 
 -- They are the same, row by row.

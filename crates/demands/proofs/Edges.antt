@@ -6,10 +6,10 @@ use Rattle.standard.specs.Answers.{ill-formed, nul}
 use Rattle.standard.specs.Errors.{error}
 use Rattle.standard.specs.Reading.{stops}
 use Rattle.standard.proofs.Computing.{computing}
-use Rattle.demands.proofs.Rows.{Row, rowOf, row, end, left, says, gives}
+use Rattle.demands.proofs.Rows.{SourceRow, sourceRow, row, end, left, says, gives}
 
 -- Ends and refusals, with the text of what stands before them.
-abbrev pub closings : List Row
+abbrev pub closings : List SourceRow
 closings =
     row Attribute "x\"y" "x" [] (left 1)
     ∷ row Attribute "x<y" "x<y" [] (end 3)
@@ -17,16 +17,16 @@ closings =
     ∷ row Attribute "&not\"" "¬" (error 2 0 ∷ []) (left 4)
     ∷ row Text "a\0" "a" [] (stops nul 1)
     ∷ row Text "<\0" "" [] (left 0)
-    ∷ rowOf Text (0xE2 ∷ []) "" [] (stops ill-formed 0)
-    ∷ rowOf Text (0xE2 ∷ 0x3C ∷ []) "" [] (stops ill-formed 0)
-    ∷ rowOf Text (0x61 ∷ 0xF0 ∷ 0x9F ∷ 0x92 ∷ []) "a" [] (stops ill-formed 1)
-    ∷ rowOf Text (0x61 ∷ 0xED ∷ 0xA0 ∷ 0x80 ∷ []) "a" [] (stops ill-formed 1)
-    ∷ rowOf Text (0xC0 ∷ 0x80 ∷ []) "" [] (stops ill-formed 0)
-    ∷ rowOf Text (0xF5 ∷ []) "" [] (stops ill-formed 0)
+    ∷ sourceRow Text (0xE2 ∷ []) "" [] (stops ill-formed 0)
+    ∷ sourceRow Text (0xE2 ∷ 0x3C ∷ []) "" [] (stops ill-formed 0)
+    ∷ sourceRow Text (0x61 ∷ 0xF0 ∷ 0x9F ∷ 0x92 ∷ []) "a" [] (stops ill-formed 1)
+    ∷ sourceRow Text (0x61 ∷ 0xED ∷ 0xA0 ∷ 0x80 ∷ []) "a" [] (stops ill-formed 1)
+    ∷ sourceRow Text (0xC0 ∷ 0x80 ∷ []) "" [] (stops ill-formed 0)
+    ∷ sourceRow Text (0xF5 ∷ []) "" [] (stops ill-formed 0)
     ∷ []
 
 -- Newlines and characters that stand for themselves.
-abbrev pub characters : List Row
+abbrev pub characters : List SourceRow
 characters =
     row Text "a\rb\nc\r\nd\r" "a\nb\nc\nd\n" [] (end 9)
     ∷ row Text "\r\r\n" "\n\n" [] (end 3)
@@ -38,7 +38,7 @@ characters =
     ∷ []
 
 -- Numbers.
-abbrev pub numbers : List Row
+abbrev pub numbers : List SourceRow
 numbers =
     row Text "&#Xaf;&#xAF;" "¯¯" [] (end 12)
     ∷ row Text "&#xg&#a&#" "&#xg&#a&#" (error 1 0 ∷ error 1 4 ∷ error 1 7 ∷ []) (end 9)
@@ -51,7 +51,7 @@ numbers =
     ∷ []
 
 -- Names.
-abbrev pub names : List Row
+abbrev pub names : List SourceRow
 names =
     row Text "&;&Z0;&9z;&z&" "&;&Z0;&9z;&z&" (error 4 2 ∷ error 4 6 ∷ []) (end 13)
     ∷ row Text "&fjlig;&apos" "fj&apos" [] (end 12)

@@ -12,17 +12,17 @@ use Rattle.escaper.specs.Escape.{writtenFor, escapeFrom, answerOf, writtenOf, e
 use Rattle.demands.proofs.EscapeAnswers.{escaped}
 
 -- An input with its mode and room, the answer, and what is written.
-pub record Row : Type 0 where
+pub record EscapeRow : Type 0 where
   pub mode : Mode
   pub input : List ℕ
   pub room : ℕ
   pub result : Escaped
   pub text : String
 
-abbrev pub row : Mode → List ℕ → ℕ → Escaped → String → Row
+abbrev pub row : Mode → List ℕ → ℕ → Escaped → String → EscapeRow
 row mode input room result text = record { mode = mode; input = input; room = room; result = result; text = text }
 
-abbrev pub table : List Row
+abbrev pub table : List EscapeRow
 table =
     row Text (bytes "a&b<c>d\"e") 19 (escaped 0 19 0) "a&amp;b&lt;c&gt;d\"e"
     ∷ row Attribute (bytes "a&b<c>d\"e") 24 (escaped 0 24 0) "a&amp;b&lt;c&gt;d&quot;e"
@@ -36,10 +36,10 @@ table =
     ∷ []
 
 -- What a row says, and what the definitions give.
-abbrev pub says : Row → Escaped × List ℕ
+abbrev pub says : EscapeRow → Escaped × List ℕ
 says r = (r .result, bytes (r .text))
 
-abbrev pub gives : Row → Escaped × List ℕ
+abbrev pub gives : EscapeRow → Escaped × List ℕ
 gives r = (escapedOf (r .mode) (r .input) (r .room), writtenOf (r .mode) (r .input) (r .room))
 
 -- They are the same, row by row.

@@ -18,12 +18,12 @@ zeros zero = []
 zeros (suc n) = 0 ∷ zeros n
 
 -- A call, and what it gives.
-pub record Row : Type 0 where
+pub record CallRow : Type 0 where
   pub call : Given
   pub gives : Given
 
 infix 5 _gives_
-abbrev pub _gives_ : Given → Given → Row
+abbrev pub _gives_ : Given → Given → CallRow
 call gives given = record { call = call; gives = given }
 
 -- A number, a report of so many bytes, a source, and rooms of so many bytes.
@@ -36,7 +36,7 @@ escape number report input out = asked (zeros report) (modeOf number) (escapes (
 abbrev pub check : (number report : ℕ) → String → (rows : List ℕ) → String → (errors : List ℕ) → Given
 check number report source rows text errors = asked (zeros report) (contextOf number) (checks (bytes source) rows (bytes text) errors)
 
-abbrev pub table : List Row
+abbrev pub table : List CallRow
 table =
     (decode 0 16 "&notit;x" 72 96 gives reported 0 6 1 0 (bytes "¬it;x") (fours (2 ∷ 0 ∷ [])))
     ∷ (decode 1 16 "&not=1\"&" 72 96 gives reported 7 6 0 6 (bytes "&not=1") [])
@@ -63,6 +63,6 @@ unfolding numbers fours answerOf writtenOf decodedOf writtenFor escapeFrom escap
 computing-calls = tt
 
 -- The definitions give what each row says.
-pub export-edges : map (λ (r : Row). r .call) table ≡ map (λ (r : Row). r .gives) table
+pub export-edges : map (λ (r : CallRow). r .call) table ≡ map (λ (r : CallRow). r .gives) table
 unfolding computing computing-calls zeros checkedOf words checkedBytes meant asked decodes escapes checks
 export-edges = refl

@@ -39,8 +39,8 @@ abbrev pub WrongUse : (report : List ℕ) (number : ℕ) → Type 0
 WrongUse report number = RightUse report number → ⊥
 
 -- The report holds four numbers, and the first of them is returned.
-abbrev pub Reports : (r : ℕ) (report′ : List ℕ) (answer second third place : ℕ) → Type 0
-Reports r report′ answer second third place = (r ≡ answer) × (report′ ≡ fours (answer ∷ second ∷ third ∷ place ∷ []))
+abbrev pub ReportHolds : (r : ℕ) (report′ : List ℕ) (answer second third place : ℕ) → Type 0
+ReportHolds r report′ answer second third place = (r ≡ answer) × (report′ ≡ fours (answer ∷ second ∷ third ∷ place ∷ []))
 
 -- `decode_bytes` answers as `decode_whole` does where the error room has as many numbers, writes the same text, and the same numbers as bytes.
 pub decode-as-whole : {d w : Decoded} {text′ errors′ text″ room′ : List ℕ} (context : Context) (source text errors room : List ℕ)
@@ -100,7 +100,7 @@ module _ (number : ℕ) (source text errors report : List ℕ) (r : ℕ) (text�
   -- What `decode_bytes` gives, returned and reported: answer, text bytes, errors, place.
   abbrev pub AsDecode : Context → Type 0
   AsDecode context =
-      (d : Decoded) × DecodesBytes context source text errors d text′ errors′ × Reports r report′ (d .answer) (d .text) (d .errors) (d .place)
+      (d : Decoded) × DecodesBytes context source text errors d text′ errors′ × ReportHolds r report′ (d .answer) (d .text) (d .errors) (d .place)
 
   decode-used : (context : Context) → length report ≡ 16
       → asked report (contextOf number) (decodes source text errors) ≡ decodes source text errors context → AsDecode context
@@ -149,7 +149,7 @@ module _ (number : ℕ) (input out report : List ℕ) (r : ℕ) (out′ report�
 
   -- What `escape` gives, returned and reported: answer, text bytes, no errors, place.
   abbrev pub AsEscape : Mode → Type 0
-  AsEscape mode = (e : Escaped) × Escapes mode input out e out′ × Reports r report′ (e .answer) (e .text) 0 (e .place)
+  AsEscape mode = (e : Escaped) × Escapes mode input out e out′ × ReportHolds r report′ (e .answer) (e .text) 0 (e .place)
 
   escape-used : (mode : Mode) → length report ≡ 16 → asked report (modeOf number) (escapes input out) ≡ escapes input out mode → AsEscape mode
   unfolding escapes
@@ -196,7 +196,7 @@ module _ (number : ℕ) (source rows text errors report : List ℕ) (r : ℕ) (r
 
   -- What `check_bytes` gives, returned and reported: answer, verdict, row, place.
   abbrev pub AsCheck : Context → Type 0
-  AsCheck context = (c : Checked) × (c ≡ answer context) × Reports r report′ (c .answer) (c .verdict) (c .row) (c .place)
+  AsCheck context = (c : Checked) × (c ≡ answer context) × ReportHolds r report′ (c .answer) (c .verdict) (c .row) (c .place)
 
   check-used : (context : Context) → length report ≡ 16
       → asked report (contextOf number) (checks source rows text errors) ≡ checks source rows text errors context → AsCheck context
@@ -212,8 +212,8 @@ module _ (number : ℕ) (source rows text errors report : List ℕ) (r : ℕ) (r
 
   -- 'Rows or errors whose bytes aren't whole numbers are 10.'
   pub check-10 : RightUse report number → length source ≤ 65536 → ((length rows % 4 ≡ 0) × (length errors % 4 ≡ 0) → ⊥)
-      → Reports r report′ not-whole 0 0 0
+      → ReportHolds r report′ not-whole 0 0 0
   check-10 u short odd = ⊎-elim (λ e. ten Text (check-text (u .0) e)) (λ e. ten Attribute (check-attribute (u .0) e)) (u .1)
     where
-      ten : (context : Context) → AsCheck context → Reports r report′ not-whole 0 0 0
+      ten : (context : Context) → AsCheck context → ReportHolds r report′ not-whole 0 0 0
       ten context w = rw (check-answers.bytes-10 context source rows text errors (w .0) (w .1) short odd) at (w .2)

@@ -206,10 +206,10 @@ pub data RowsAre (l : Left) (rows : List Row) : ℕ → Type 0 where
   remaining : Remains l rows → RowsAre l rows remains
 
 -- The row that it names.
-abbrev pub rowOf : {l : Left} {rows : List Row} {reason : ℕ} → RowsAre l rows reason → ℕ
-rowOf (good g) = 0
-rowOf (first-wrong w) = length (w .before)
-rowOf {rows} (remaining g) = length rows
+abbrev pub rowNamed : {l : Left} {rows : List Row} {reason : ℕ} → RowsAre l rows reason → ℕ
+rowNamed (good g) = 0
+rowNamed (first-wrong w) = length (w .before)
+rowNamed {rows} (remaining g) = length rows
 
 module _ (l : Left) (rows : List Row) (sized : Sized (l .pieces)) where
   -- Rows that cut are judged by whether something is left.
@@ -220,7 +220,7 @@ module _ (l : Left) (rows : List Row) (sized : Sized (l .pieces)) where
       ∙ ap (λ (k : ℕ). if spent m then verdict right 0 else verdict remains k) (omega arith)
 
   -- The verdict is what the rows are.
-  pub judge-says : {reason : ℕ} (j : RowsAre l rows reason) → judge 0 l rows ≡ verdict reason (rowOf j)
+  pub judge-says : {reason : ℕ} (j : RowsAre l rows reason) → judge 0 l rows ≡ verdict reason (rowNamed j)
   unfolding judge
   judge-says (good g) = judge-end (g .cuts) ∙ rw (spent-test (g .end) (g .spent))
   judge-says (remaining g) =

@@ -4,10 +4,10 @@ use mathlib.Core.List.{List, [], _∷_, map}
 use Rattle.standard.specs.declared.Context.the-variants.{Text, Attribute}
 use Rattle.standard.specs.Errors.{error}
 use Rattle.standard.proofs.Computing.{computing}
-use Rattle.demands.proofs.Rows.{Row, row, end, left, says, gives}
+use Rattle.demands.proofs.Rows.{SourceRow, row, end, left, says, gives}
 
 -- M1 to M14.
-abbrev pub table : List Row
+abbrev pub table : List SourceRow
 table =
     row Text "" "" [] (end 0)
     ∷ row Text "&amp;lt;" "&lt;" [] (end 8)

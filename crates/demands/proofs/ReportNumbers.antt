@@ -29,10 +29,10 @@ use Rattle.checker.proofs.RowLaws.{pieces-total}
 use Rattle.reporting.proofs.Codes.{Placed, errors-placed}
 use Rattle.demands.proofs.RightRows.{Cuts, none, first}
 use Rattle.demands.proofs.Reaching.{Sized, pieces-sized, total-least}
-use Rattle.demands.proofs.Judging.{wrong-between, RowsAre, good, first-wrong, remaining, rowOf, judge-says, some-verdict}
+use Rattle.demands.proofs.Judging.{wrong-between, RowsAre, good, first-wrong, remaining, rowNamed, judge-says, some-verdict}
 use Rattle.demands.proofs.Laws.{text-short, errors-few, escape-six}
 use Rattle.demands.proofs.DecodedBytes.{Did, refused, read, did}
-use Rattle.demands.proofs.Exports.{Reports}
+use Rattle.demands.proofs.Exports.{ReportHolds}
 use Rattle.demands.proofs.WholeAnswers as whole-answers
 use Rattle.demands.proofs.EscapeAnswers as escape-answers
 use Rattle.demands.proofs.CheckAnswers as check-answers
@@ -59,7 +59,7 @@ fours-say [] s = refl
 fours-say (n ∷ ns) s = rw (fours-say ns (s .1)) (ap (λ (k : ℕ). k ∷ ns) (word-says n (s .0)))
 
 -- So a report of such numbers is read back.
-pub report-read : {r : ℕ} {report′ : List ℕ} (answer second third place : ℕ) → Reports r report′ answer second third place
+pub report-read : {r : ℕ} {report′ : List ℕ} (answer second third place : ℕ) → ReportHolds r report′ answer second third place
     → All Small (answer ∷ second ∷ third ∷ place ∷ []) → words report′ ≡ answer ∷ second ∷ third ∷ place ∷ []
 report-read answer second third place w s = rw (w .1) (fours-say (answer ∷ second ∷ third ∷ place ∷ []) s)
 
@@ -125,7 +125,7 @@ cuts-few {l} (first {m = m} x c) =
 verdict-small : (l : Left) (rows : List Row) → Sized (l .pieces) → (judge 0 l rows .reason ≤ remains) × (judge 0 l rows .at-row ≤ length (l .pieces))
 verdict-small l rows sized = let v = some-verdict l rows sized in rw (judge-says l rows sized (v .1)) (by (v .1))
   where
-    by : {reason : ℕ} (j : RowsAre l rows reason) → (reason ≤ remains) × (rowOf j ≤ length (l .pieces))
+    by : {reason : ℕ} (j : RowsAre l rows reason) → (reason ≤ remains) × (rowNamed j ≤ length (l .pieces))
     by (good g) = (omega arith, omega arith)
     by (remaining g) = (omega arith, cuts-few (g .cuts))
     by (first-wrong w) = (omega (arith, wrong-between (w .wrong) .1), cuts-few (w .cuts))

@@ -10,7 +10,7 @@ use Rattle.standard.specs.Answers.{done, context-end}
 use Rattle.standard.specs.Reading.{Stop, stops, stopOf, covered, Reading, reading, decode}
 
 -- A source with its context, its text, its errors, and where it closes.
-pub record Row : Type 0 where
+pub record SourceRow : Type 0 where
   pub context : Context
   pub source : List ℕ
   pub text : String
@@ -18,11 +18,11 @@ pub record Row : Type 0 where
   pub closing : Stop
 
 -- A row of bytes, and a row of quoted text.
-abbrev pub rowOf : Context → List ℕ → String → List Error → Stop → Row
-rowOf context source text errors closing = record { context = context; source = source; text = text; errors = errors; closing = closing }
+abbrev pub sourceRow : Context → List ℕ → String → List Error → Stop → SourceRow
+sourceRow context source text errors closing = record { context = context; source = source; text = text; errors = errors; closing = closing }
 
-abbrev pub row : Context → String → String → List Error → Stop → Row
-row context source text errors closing = rowOf context (bytes source) text errors closing
+abbrev pub row : Context → String → String → List Error → Stop → SourceRow
+row context source text errors closing = sourceRow context (bytes source) text errors closing
 
 -- The source is at its end, or left at the context's.
 abbrev pub end : ℕ → Stop
@@ -32,9 +32,9 @@ abbrev pub left : ℕ → Stop
 left place = stops context-end place
 
 -- What a row says of its source.
-abbrev pub says : Row → Stop × Reading
+abbrev pub says : SourceRow → Stop × Reading
 says r = (r .closing, reading (bytes (r .text)) (r .errors))
 
 -- What the definitions give for it.
-abbrev pub gives : Row → Stop × Reading
+abbrev pub gives : SourceRow → Stop × Reading
 gives r = (stopOf (r .context) (r .source), decode builtin (r .context) (covered (r .context) (r .source)))

@@ -31,7 +31,7 @@ use Rattle.demands.proofs.Lines.{Line, LineOf}
 use Rattle.demands.proofs.Laws.{rooms-suffice}
 use Rattle.demands.proofs.RightRows.{none, Good, Remains, FirstWrong, together, rowsFor, inThrees, column}
 use Rattle.demands.proofs.Reaching.{Sized, pieces-sized, pieces-some}
-use Rattle.demands.proofs.Judging.{RowsAre, good, first-wrong, remaining, rowOf, wrong-between, judge-says, some-verdict, cuts-columns, cuts-reads, groups-good, threes-read, threes-length}
+use Rattle.demands.proofs.Judging.{RowsAre, good, first-wrong, remaining, rowNamed, wrong-between, judge-says, some-verdict, cuts-columns, cuts-reads, groups-good, threes-read, threes-length}
 use Rattle.demands.proofs.CheckAnswers as check-answers
 use Rattle.demands.proofs.WholeAnswers as whole-answers
 
@@ -59,7 +59,7 @@ module _ (context : Context) (source rows text errors : List ℕ) (c : Checked) 
     answered = check-answers.line-0 context source rows text errors c is .so ((short, (threes, pairs)), reads)
 
     -- What the rows are, the verdict says.
-    says : {reason : ℕ} (j : RowsAre all (rowsOf rows) reason) → (c .verdict ≡ reason) × (c .row ≡ rowOf j)
+    says : {reason : ℕ} (j : RowsAre all (rowsOf rows) reason) → (c .verdict ≡ reason) × (c .row ≡ rowNamed j)
     says j =
         let e = judge-says all (rowsOf rows) sized j in rw answered (ap (λ (v : Verdict). v .reason) e, ap (λ (v : Verdict). v .at-row) e)
 

@@ -13,7 +13,7 @@ use Rattle.lists.specs.Notation.{between}
 use Rattle.lists.proofs.Choice.{if-both, no-way, between-true, test?}
 use Rattle.standard.specs.declared.characters.CharRead.the-variants.{Char}
 use Rattle.standard.specs.Utf8.{tails, afterLead, readChar}
-use Rattle.standard.proofs.Utf8.{whole, if-char}
+use Rattle.standard.proofs.Utf8.{is-char, if-char}
 use Rattle.standard.proofs.Ascii.{read-ascii}
 use Rattle.escaper.specs.declared.Mode.{Mode}
 use Rattle.escaper.specs.declared.Mode.the-variants.{Text, Attribute}
@@ -39,7 +39,7 @@ read-one v b s c n h t e =
 read-two : (s : List ℕ) (c n : ℕ) → readChar (0xC2 ∷ s) ≡ Char c n
     → (n ≡ 2) × (c ≡ 0x80 + getD s 0 0 % 64) × (0x80 ≤ getD s 0 0) × (getD s 0 0 ≤ 0xBF)
 unfolding readChar afterLead tails
-read-two [] c n e = absurd (whole e)
+read-two [] c n e = absurd (is-char e)
 read-two (x ∷ s) c n e =
     let w = if-char (between 0x80 0xBF x) _ 1 c n e in
     let k = between-true 0x80 0xBF x (w .0) in
@@ -93,5 +93,5 @@ first-begins mode b s c n e q =
 pub begins : (mode : Mode) (s : List ℕ) (c n : ℕ) → readChar s ≡ Char c n → quiet (quoteOf mode) (getD s 0 0) ≡ false
     → Begun mode c n (specialOf (getD s 0 0) (getD s 1 0))
 unfolding readChar
-begins mode [] c n e q = absurd (whole e)
+begins mode [] c n e q = absurd (is-char e)
 begins mode (b ∷ s) c n e q = first-begins mode b s c n e q

@@ -15,7 +15,7 @@ use Rattle.standard.specs.declared.characters.CharRead.the-variants.{Char, Inco
 use Rattle.standard.specs.Utf8.{readChar}
 use Rattle.standard.specs.Answers.{done}
 use Rattle.standard.specs.Reading.{answerTo, sizeOf, Stop, stops, stopFrom}
-use Rattle.standard.proofs.Utf8.{read-length, end-length, whole}
+use Rattle.standard.proofs.Utf8.{read-length, end-length, is-char}
 use Rattle.standard.proofs.Skips.{drop-pred, skip-drops}
 use Rattle.escaper.specs.declared.Mode.{Mode}
 use Rattle.escaper.specs.Escape.{writtenFor, escapeFrom, escape}
@@ -81,7 +81,7 @@ escape-skip mode = skip-drops (escapeFrom mode) (λ k. refl) (λ k b s. refl)
 pub escape-unfold : (mode : Mode) (s : List ℕ) (c n : ℕ) → readChar s ≡ Char c n
     → escape mode s ≡ writtenFor mode c (take n s) ++ escape mode (drop n s)
 unfolding escapeFrom readChar
-escape-unfold mode [] c n e = absurd (whole e)
+escape-unfold mode [] c n e = absurd (is-char e)
 escape-unfold mode (b ∷ s) c n e =
     let some = read-length (b ∷ s) c n e .0 in
     rw e (ap (_++_ (writtenFor mode c (take n (b ∷ s)))) (escape-skip mode (n - 1) s ∙ ap (escape mode) (drop-pred n b s some)))

@@ -9,16 +9,16 @@ use Rattle.standard.proofs.Computing.{computing}
 use Rattle.reporting.specs.Report.{decimalBy, decimal, errorLines, closingLine, sourceReport, forInput, reportOf}
 
 -- An input and what is written for it.
-pub record Row : Type 0 where
+pub record InputRow : Type 0 where
   pub input : List ℕ
   pub written : String
 
 -- A row of bytes, and a row of quoted text.
-abbrev pub rowOf : List ℕ → String → Row
-rowOf input written = record { input = input; written = written }
+abbrev pub inputRow : List ℕ → String → InputRow
+inputRow input written = record { input = input; written = written }
 
-abbrev pub row : String → String → Row
-row input written = rowOf (bytes input) written
+abbrev pub row : String → String → InputRow
+row input written = inputRow (bytes input) written
 
 -- 'Input `T` LF `&notit;x` writes exactly `¬it;x`, `2 0`, `end 8`, each with LF.'
 pub bench-example : reportOf (bytes "T\n&notit;x") ≡ bytes "¬it;x\n2 0\nend 8\n"
@@ -26,7 +26,7 @@ unfolding computing decimalBy decimal errorLines closingLine sourceReport forInp
 bench-example = refl
 
 -- M1 to M14.
-abbrev pub marked : List Row
+abbrev pub marked : List InputRow
 marked =
     row "T\n" "\nend 0\n"
     ∷ row "T\n&amp;lt;" "&lt;\nend 8\n"
@@ -45,7 +45,7 @@ marked =
     ∷ []
 
 -- Starts, ends and refusals.
-abbrev pub starts : List Row
+abbrev pub starts : List InputRow
 starts =
     row "" "bad context\n"
     ∷ row "T" "bad context\n"
@@ -61,15 +61,15 @@ starts =
     ∷ row "T\na\0" "refused 2 1\n"
     ∷ row "A\n&notit;&not\0\"" "refused 2 11\n"
     ∷ row "T\n<\0" "\nleft 0\n"
-    ∷ rowOf (0x54 ∷ 0xA ∷ 0x61 ∷ 0xFF ∷ []) "refused 1 1\n"
-    ∷ rowOf (0x54 ∷ 0xA ∷ 0xE2 ∷ 0x3C ∷ []) "refused 1 0\n"
-    ∷ rowOf (0x41 ∷ 0xA ∷ 0x22 ∷ 0xFF ∷ []) "\nleft 0\n"
-    ∷ rowOf (0x54 ∷ 0xA ∷ 0x78 ∷ 0xF0 ∷ 0x9F ∷ 0x92 ∷ []) "refused 1 1\n"
+    ∷ inputRow (0x54 ∷ 0xA ∷ 0x61 ∷ 0xFF ∷ []) "refused 1 1\n"
+    ∷ inputRow (0x54 ∷ 0xA ∷ 0xE2 ∷ 0x3C ∷ []) "refused 1 0\n"
+    ∷ inputRow (0x41 ∷ 0xA ∷ 0x22 ∷ 0xFF ∷ []) "\nleft 0\n"
+    ∷ inputRow (0x54 ∷ 0xA ∷ 0x78 ∷ 0xF0 ∷ 0x9F ∷ 0x92 ∷ []) "refused 1 1\n"
     ∷ []
 
 -- The definition gives what each row says.
-pub examples : (map (λ (r : Row). reportOf (r .input)) marked ≡ map (λ (r : Row). bytes (r .written)) marked)
-    × (map (λ (r : Row). reportOf (r .input)) starts ≡ map (λ (r : Row). bytes (r .written)) starts)
+pub examples : (map (λ (r : InputRow). reportOf (r .input)) marked ≡ map (λ (r : InputRow). bytes (r .written)) marked)
+    × (map (λ (r : InputRow). reportOf (r .input)) starts ≡ map (λ (r : InputRow). bytes (r .written)) starts)
 unfolding computing decimalBy decimal errorLines closingLine sourceReport forInput
 examples = (refl, refl)
 

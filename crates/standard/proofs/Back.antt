@@ -11,7 +11,7 @@ use Rattle.standard.specs.declared.characters.CharRead.the-variants.{Cha
 use Rattle.standard.specs.declared.characters.Lead.{Lead}
 use Rattle.standard.specs.declared.characters.Lead.the-variants.{Bad, Good}
 use Rattle.standard.specs.Utf8.{leadOf, tails, afterLead, readChar, scalar, octets, encode}
-use Rattle.standard.proofs.Utf8.{upper, Next, Fits, lead-fits, if-char, whole}
+use Rattle.standard.proofs.Utf8.{upper, Next, Fits, lead-fits, if-char, is-char}
 use Rattle.standard.proofs.RoundTrip.{sixes, octets-sixes, size-scalar, encode-octets}
 
 -- The tails of a whole character are its last groups of six bits, the first one in its range.
@@ -19,7 +19,7 @@ tails-back : (n low high bits len : ℕ) (s : List ℕ) (a m : ℕ) → 0x80 ≤
     → (m ≡ len + n) × (bits ≡ upper n a) × Next n low high a × (sixes n a ≡ take n s)
 unfolding tails
 tails-back zero low high bits len s a m p q h = let e : m ≡ len = cc in (omega arith, cc, tt, refl)
-tails-back (suc n) low high bits len [] a m p q h = absurd (whole h)
+tails-back (suc n) low high bits len [] a m p q h = absurd (is-char h)
 tails-back (suc n) low high bits len (b ∷ s) a m p q h =
     let w = if-char (between low high b) _ len a m h in
     let k = between-true low high b (w .0) in
@@ -29,7 +29,7 @@ tails-back (suc n) low high bits len (b ∷ s) a m p q h =
 -- A first byte and its tails are the bytes of a scalar value.
 after-back : (b : ℕ) (l : Lead) (s : List ℕ) (a m : ℕ) → Fits b l → afterLead l s ≡ Char a m → (octets a ≡ take m (b ∷ s)) × (scalar a ≡ true)
 unfolding afterLead
-after-back b Bad s a m k h = absurd (whole h)
+after-back b Bad s a m k h = absurd (is-char h)
 after-back b (Good n low high bits) s a m k h =
     let w = tails-back n low high bits 1 s a m (k .least) (k .most) h in
     let z = k .only a (w .1) (w .2) in
@@ -39,5 +39,5 @@ after-back b (Good n low high bits) s a m k h =
 -- What is read is a scalar value, and its bytes are those that were read.
 pub read-back : (s : List ℕ) (a m : ℕ) → readChar s ≡ Char a m → (encode a ≡ take m s) × (scalar a ≡ true)
 unfolding readChar
-read-back [] a m h = absurd (whole h)
+read-back [] a m h = absurd (is-char h)
 read-back (b ∷ s) a m h = let w = after-back b (leadOf b) s a m (lead-fits b) h in (encode-octets a (w .1) ∙ w .0, w .1)

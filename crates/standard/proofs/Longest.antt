@@ -10,7 +10,7 @@ use lib.Dec.{ltb}
 use lib.ListN.{length}
 use Rattle.lists.proofs.Choice.{facts, if-both, and-true}
 use Rattle.standard.specs.declared.names.Found.{Found}
-use Rattle.standard.specs.Names.{Name, stands, nothing, foundAs, longer, longestFrom, longest}
+use Rattle.standard.specs.Names.{Name, stands, no-name, foundAs, longer, longestFrom, longest}
 use Rattle.standard.proofs.Narrow.{longest-cases}
 
 -- The longer one is not shorter than what was found, nor than the name where that stands there.
@@ -39,7 +39,7 @@ longest-from-most found (m ∷ names) s =
 pub longest-most : (names : List Name) (s : List ℕ) (n : Name) → List·Memᴰ n names → stands (n .word) s ≡ true
     → length (n .word) ≤ longest names s .len
 unfolding longest
-longest-most names s = longest-from-most nothing names s .1
+longest-most names s = longest-from-most no-name names s .1
 
 -- What is found is a name of the list that stands there.
 pub longest-some : (names : List Name) (s : List ℕ) → 0 < longest names s .len

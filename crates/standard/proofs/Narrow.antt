@@ -12,7 +12,7 @@ use Rattle.lists.proofs.Choice.{if-both, no-way}
 use Rattle.lists.proofs.Every.{All, every-all, all-member}
 use Rattle.standard.specs.declared.names.Found.{Found}
 use Rattle.standard.specs.Utf8.{octets, encode, bytes}
-use Rattle.standard.specs.Names.{Name, stands, charRef, nothing, foundAs, longer, longestFrom, longest}
+use Rattle.standard.specs.Names.{Name, stands, charRef, no-name, foundAs, longer, longestFrom, longest}
 use Rattle.standard.specs.NameList.{builtin}
 use Rattle.standard.specs.Pieces.{encodes, charRefText}
 
@@ -62,10 +62,10 @@ longest-from P s (n ∷ names) found h each =
         each n (List·Memᴰ·head refl) (omega (arith, ltb-true (found .len) (length (n .word)) (w .0))) (w .1)
 
 -- The longest name is none, or a name of the list that is not empty and stands there.
-pub longest-cases : (P : Found → Type 0) (s : List ℕ) (names : List Name) → P nothing
+pub longest-cases : (P : Found → Type 0) (s : List ℕ) (names : List Name) → P no-name
     → ((n : Name) → List·Memᴰ n names → 0 < length (n .word) → stands (n .word) s ≡ true → P (foundAs n)) → P (longest names s)
 unfolding longest
-longest-cases P s names = longest-from P s names nothing
+longest-cases P s names = longest-from P s names no-name
 
 -- What is found is not longer than s, and with narrow names its text is not longer than it is with its `&`.
 abbrev pub FoundFits : List Name → List ℕ → Found → Type 0

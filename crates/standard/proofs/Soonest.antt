@@ -12,7 +12,7 @@ use Rattle.standard.specs.declared.characters.CharRead.the-variants.{Cha
 use Rattle.standard.specs.declared.characters.Lead.{Lead}
 use Rattle.standard.specs.declared.characters.Lead.the-variants.{Bad, Good}
 use Rattle.standard.specs.Utf8.{leadOf, tails, afterLead, readChar}
-use Rattle.standard.proofs.Utf8.{Fits, lead-fits, whole, Settled, read-append, incomplete-length, illformed-length}
+use Rattle.standard.proofs.Utf8.{Fits, lead-fits, is-char, Settled, read-append, incomplete-length, illformed-length}
 
 -- Some bytes after s make a whole character of it.
 abbrev Completes : (List ℕ → CharRead) → List ℕ → Type 0
@@ -55,7 +55,7 @@ incomplete-completes (b ∷ s) n h = after-completes b (leadOf b) s n (lead-fits
 tails-soonest : (need low high bits len : ℕ) (s : List ℕ) (n : ℕ) → tails need low high bits len s ≡ Illformed n → (j : ℕ) × (n ≡ len + j)
     × (tails need low high bits len (take j s) ≡ Incomplete n) × (tails need low high bits len (take (suc j) s) ≡ Illformed n)
 unfolding tails
-tails-soonest zero low high bits len s n h = absurd (whole (sym h))
+tails-soonest zero low high bits len s n h = absurd (is-char (sym h))
 tails-soonest (suc need) low high bits len [] n h = absurd (subst Settled (sym h) tt)
 tails-soonest (suc need) low high bits len (b ∷ s) n h =
     ⊎-elim

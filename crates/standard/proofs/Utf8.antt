@@ -129,20 +129,20 @@ pub lead-most : (b need low high bits : ℕ) → leadOf b ≡ Good need low high
 lead-most b need low high bits e = let k = subst (Fits b) e (lead-fits b) in (k .few, k .small)
 
 -- The answer is a whole character.
-abbrev pub Whole : CharRead → Type 0
-Whole (Char a m) = Unit {0}
-Whole (Incomplete n) = ⊥
-Whole (Illformed n) = ⊥
-Whole End = ⊥
+abbrev pub IsChar : CharRead → Type 0
+IsChar (Char a m) = Unit {0}
+IsChar (Incomplete n) = ⊥
+IsChar (Illformed n) = ⊥
+IsChar End = ⊥
 
 -- What equals a whole character is one.
-pub whole : {r : CharRead} {a m : ℕ} → r ≡ Char a m → Whole r
-whole e = subst Whole (sym e) tt
+pub is-char : {r : CharRead} {a m : ℕ} → r ≡ Char a m → IsChar r
+is-char e = subst IsChar (sym e) tt
 
 -- A whole character behind a test passed it.
 pub if-char : (t : Bool) (x : CharRead) (len a m : ℕ) → (if t then x else Illformed len) ≡ Char a m → (t ≡ true) × (x ≡ Char a m)
 if-char true x len a m h = (refl, h)
-if-char false x len a m h = absurd (whole h)
+if-char false x len a m h = absurd (is-char h)
 
 -- An answer that stands whatever bytes follow.
 abbrev pub Settled : CharRead → Type 0
@@ -229,7 +229,7 @@ tails-take : (need low high bits len : ℕ) (s : List ℕ) (a m j : ℕ) → tai
     → tails need low high bits len (take j s) ≡ Char a m
 unfolding tails
 tails-take zero low high bits len s a m j h p = h
-tails-take (suc n) low high bits len [] a m j h p = absurd (whole h)
+tails-take (suc n) low high bits len [] a m j h p = absurd (is-char h)
 tails-take (suc n) low high bits len (b ∷ s) a m zero h p = absurd (omega arith)
 tails-take (suc n) low high bits len (b ∷ s) a m (suc j) h p =
     let w = if-char (between low high b) _ len a m h in
@@ -238,7 +238,7 @@ tails-take (suc n) low high bits len (b ∷ s) a m (suc j) h p =
 -- The same after a first byte.
 after-take : (l : Lead) (s : List ℕ) (a m : ℕ) → afterLead l s ≡ Char a (suc m) → afterLead l (take m s) ≡ Char a (suc m)
 unfolding afterLead
-after-take Bad s a m h = absurd (whole h)
+after-take Bad s a m h = absurd (is-char h)
 after-take (Good need low high bits) s a m h =
     let k = tails-within need low high bits 1 (suc need) (suc (length s)) s (omega arith) (omega arith) (omega arith) in
     let e = subst (Within (suc need) (suc (length s))) h k in
@@ -247,6 +247,6 @@ after-take (Good need low high bits) s a m h =
 -- A character's own bytes alone give it.
 pub read-take : (s : List ℕ) (a m : ℕ) → readChar s ≡ Char a m → readChar (take m s) ≡ Char a m
 unfolding readChar
-read-take [] a m h = absurd (whole h)
+read-take [] a m h = absurd (is-char h)
 read-take (b ∷ s) a zero h = absurd (omega (arith, read-length (b ∷ s) a zero h))
 read-take (b ∷ s) a (suc m) h = after-take (leadOf b) s a m h

@@ -31,8 +31,8 @@ charRef first second =
     record { chars = first ∷ second ∷ []; «num_chars» = if eqb second 0 then 1 else 2 }
 
 -- No name, as what was found.
-abbrev pub nothing : Found
-nothing = record { len = 0; reference = record { chars = 0 ∷ 0 ∷ []; «num_chars» = 0 } }
+abbrev pub no-name : Found
+no-name = record { len = 0; reference = record { chars = 0 ∷ 0 ∷ []; «num_chars» = 0 } }
 
 -- A name, as what was found.
 abbrev pub foundAs : Name → Found
@@ -49,7 +49,7 @@ longestFrom found (n ∷ names) s = longestFrom (longer found n s) names s
 
 -- The longest name that stands at the front of s.
 unfoldable pub longest : List Name → List ℕ → Found
-longest names s = longestFrom nothing names s
+longest names s = longestFrom no-name names s
 
 -- The bytes s are a beginning of some name.
 unfoldable pub begins : List Name → List ℕ → Bool
