@@ -23,6 +23,8 @@ pub mod Taking
 pub mod Releasing
 pub mod AnyMachine
 pub mod Layer
+pub mod HeldNames
+pub mod HeldStates
 pub mod HeldRule
 pub mod StreamReads
 pub mod Open
