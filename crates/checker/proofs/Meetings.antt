@@ -26,7 +26,7 @@ use Rattle.checker.specs.declared.meeting.Met.{Met}
 use Rattle.checker.specs.Meeting.{lent, Meets}
 
 -- Two words stand one after the other.
-pub stands-append : (a b s : List ℕ) → stands (a ++ b) s ≡ stands a s && stands b (drop (length a) s)
+stands-append : (a b s : List ℕ) → stands (a ++ b) s ≡ stands a s && stands b (drop (length a) s)
 unfolding stands
 stands-append [] b s = refl
 stands-append (x ∷ a) b [] = refl
@@ -111,7 +111,7 @@ meets-join {m} {m′} {m″} {a} {b} {l} p q = record { right-is = both (m′ .r
         omega (arith, q .at-is e, p .at-is r, length-append a b)
 
 -- The bytes of a number stand where it is read.
-pub read-stands : (s : List ℕ) (c n : ℕ) → readChar s ≡ Char (written c) n → (stands (encode c) s ≡ true) × (n ≡ length (encode c))
+read-stands : (s : List ℕ) (c n : ℕ) → readChar s ≡ Char (written c) n → (stands (encode c) s ≡ true) × (n ≡ length (encode c))
 unfolding encode
 read-stands s c n e =
     let w = read-back s (written c) n e in
@@ -120,7 +120,7 @@ read-stands s c n e =
     (ap (λ (t : List ℕ). stands t s) is ∙ front-stands n s, sym (ap length is ∙ simp length-take (omega arith)))
 
 -- Where they stand it is read.
-pub stands-read : (s : List ℕ) (c : ℕ) → stands (encode c) s ≡ true → readChar s ≡ Char (written c) (length (encode c))
+stands-read : (s : List ℕ) (c : ℕ) → stands (encode c) s ≡ true → readChar s ≡ Char (written c) (length (encode c))
 stands-read s c e =
     ap readChar (stands-front (encode c) s e) ∙ encode-scalar c (drop (length (encode c)) s) .0
 
@@ -154,7 +154,7 @@ word-drop n l i = rw (getD-drop n l i 0, later 1, later 2, later 3) refl
     later : (k : ℕ) → getD (drop n l) (i + k) 0 ≡ getD l (n + i + k) 0
     later k = getD-drop n l (i + k) 0 ∙ ap (λ (j : ℕ). getD l j 0) (let e : n + (i + k) ≡ n + i + k = omega arith in e)
 
-pub words-at : (l : List ℕ) (i : ℕ) → i < length l / 4 → getD (words l) i 0 ≡ word32 l (4 * i)
+words-at : (l : List ℕ) (i : ℕ) → i < length l / 4 → getD (words l) i 0 ≡ word32 l (4 * i)
 unfolding words
 words-at [] i h = absurd (omega arith)
 words-at (a ∷ []) i h = absurd (omega arith)

@@ -129,7 +129,7 @@ module _ (s : List ℕ) (at : ℕ) {seen : ℕ} (is : seen ≡ getD s (at + 2) 2
   numeric-decimal e = let intro : at + 2 - at ≡ 2 = omega arith in rw (hex-seen, e, intro)
 
 -- A name that was found, as a piece.
-abbrev pub foundOf : Found → Bool → Piece
+abbrev foundOf : Found → Bool → Piece
 foundOf found unclosed = record { size = found .len + 1; reference = found .reference; unclosed = unclosed; code = 0 }
 
 -- What stands from `from` on, after an `&`, by the longest name that is found there.

@@ -116,7 +116,7 @@ module _ {names : List Name} {context : Context} {s rows text errors : List ℕ}
     remaining f = verdicts remains i (last ∙ rw f)
 
     -- Covered source remains.
-    pub source-remains : at ≢ length s → Verdicts (verdictOn names context s rows text errors) (coded remains i)
+    source-remains : at ≢ length s → Verdicts (verdictOn names context s rows text errors) (coded remains i)
     source-remains unlike =
         let some : 0 < length (drop at s) = simp length-drop (omega (arith, w .at-there)) in
         let more : length (pieces names context (drop at s)) ≢ 0 = λ z. omega (arith, ap length (pieces-unfold names context (drop at s) some)) in
@@ -124,7 +124,7 @@ module _ {names : List Name} {context : Context} {s rows text errors : List ℕ}
 
     module _ (source-over : at ≡ length s) where
       -- Text remains.
-      pub text-remains : t ≢ length text → Verdicts (verdictOn names context s rows text errors) (coded remains i)
+      text-remains : t ≢ length text → Verdicts (verdictOn names context s rows text errors) (coded remains i)
       text-remains unlike =
           remaining (rw (
             length-drop t text,
@@ -134,7 +134,7 @@ module _ {names : List Name} {context : Context} {s rows text errors : List ℕ}
 
       module _ (text-over : t ≡ length text) where
         -- Errors remain.
-        pub errors-remain : e ≢ length errors → Verdicts (verdictOn names context s rows text errors) (coded remains i)
+        errors-remain : e ≢ length errors → Verdicts (verdictOn names context s rows text errors) (coded remains i)
         errors-remain unlike =
             remaining (rw (
               length-drop e errors,
@@ -143,7 +143,7 @@ module _ {names : List Name} {context : Context} {s rows text errors : List ℕ}
             ))
 
         -- Nothing remains.
-        pub nothing-remains : e ≡ length errors → Verdicts (verdictOn names context s rows text errors) (coded right 0)
+        nothing-remains : e ≡ length errors → Verdicts (verdictOn names context s rows text errors) (coded right 0)
         unfolding judge piecesFrom
         nothing-remains errors-over =
             let source-there : length s ≤ at = omega arith in

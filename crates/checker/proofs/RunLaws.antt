@@ -27,7 +27,7 @@ abbrev pub unitAt : (rows : List ℕ) (next : ℕ) → ℕ → Bool
 unitAt rows next i = unitRow (getD rows (next + 3 * i) 0) (getD rows (next + 3 * i + 1) 0) (getD rows (next + 3 * i + 2) 0)
 
 -- A test holds of the numbers below n.
-abbrev pub Each : (ℕ → Bool) → ℕ → Type 0
+abbrev Each : (ℕ → Bool) → ℕ → Type 0
 Each p n = (i : ℕ) → i < n → p i ≡ true
 
 -- Of none.
@@ -35,7 +35,7 @@ pub each-none : (p : ℕ → Bool) → Each p 0
 each-none p i h = absurd (omega arith)
 
 -- Of n, and of m after them.
-pub each-join : (p : ℕ → Bool) (n m : ℕ) → Each p n → ((i : ℕ) → i < m → p (n + i) ≡ true) → Each p (n + m)
+each-join : (p : ℕ → Bool) (n m : ℕ) → Each p n → ((i : ℕ) → i < m → p (n + i) ≡ true) → Each p (n + m)
 each-join p n m first later i h =
     ⊎-elim (first i)
     (λ (k : n ≤ i). let e : n + (i - n) ≡ i = omega arith in subst (λ (j : ℕ). p j ≡ true) e (later (i - n) (omega arith))) (below? i n)

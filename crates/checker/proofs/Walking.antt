@@ -85,7 +85,7 @@ module _ {names : List Name} {context : Context} {s : List ℕ} {end : ℕ} {tex
     some-left = simp length-drop (omega arith)
 
     -- The next piece has a byte, and is there.
-    pub piece-there : (0 < p .size) × (at + p .size ≤ length s)
+    piece-there : (0 < p .size) × (at + p .size ≤ length s)
     piece-there =
         let size-is : p .size ≡ standard.pieceAt names context (drop at s) .size = ap (λ (q : standard.Piece). q .size) is in
         let k = piece-size names context (drop at s) some-left in

@@ -196,7 +196,7 @@ pub record Sound (at : At) : Type 0 where
   pub store-in : length (storeOf (at .st)) + length (at .part) ≤ at .taken
 
 -- A byte that is taken leaves it so.
-pub sound-byte : (context : Context) {at : At} (b : ℕ) → Sound at → byteWalk builtin context at b .answer ≡ done
+sound-byte : (context : Context) {at : At} (b : ℕ) → Sound at → byteWalk builtin context at b .answer ≡ done
     → Sound (byteWalk builtin context at b .stop)
 unfolding byteWalk
 sound-byte context {at} b o i = by (readChar own) refl i (open-byte context b (o .opened) i .0)

@@ -238,7 +238,7 @@ byte-few context {at} b o =
     taken End = (omega arith, omega arith)
 
 -- A reading fits rooms for so many text bytes and error numbers.
-abbrev pub FitsRooms : (text errors : ℕ) → Reading → Type 0
+abbrev FitsRooms : (text errors : ℕ) → Reading → Type 0
 FitsRooms text errors g = (length (g .text) ≤ text) × (2 * length (g .errors) ≤ errors)
 
 -- What a byte asks for suffices for what it gives.

@@ -86,7 +86,7 @@ module _ (names : List Name) (context : Context) (at : At) (s t : List ℕ) wher
   go-stays n = go-append names context at s t ∙ rw (ne-eqb (go names context at s .answer) done n)
 
 -- A byte past ASCII.
-abbrev pub High : ℕ → Type 0
+abbrev High : ℕ → Type 0
 High b = 0x80 ≤ b
 
 -- The bytes of a character past ASCII are past ASCII.

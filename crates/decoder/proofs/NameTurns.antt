@@ -95,7 +95,7 @@ unfolding stepData stepBogus encode octets characterCode placed
 closed-step q p c h e = rw e
 
 -- Of a name and what is next after it, a piece and what is left of the name.
-pub name-read : (q : ℕ) (h : List ℕ) (x : Piece) (y : standard.Piece) → pieceOf x ≡ y → 1 ≤ y .size
+name-read : (q : ℕ) (h : List ℕ) (x : Piece) (y : standard.Piece) → pieceOf x ≡ y → 1 ≤ y .size
     → readingAt q (pieceOf x) ⊕ plain (drop (x .size) (code "&" ∷ h)) ≡ readingAt q y ⊕ plain (drop (y .size - 1) h)
 name-read q h x y e some =
     ap (λ (z : standard.Piece). readingAt q z ⊕ plain (drop (z .size) (code "&" ∷ h))) e
@@ -116,7 +116,7 @@ closed-read context q h al e =
 
 module _ {held : Held} {h : List ℕ} {c : ℕ} (on : NameHeld held h c) where
   -- What is held is letters and digits.
-  pub name-letters : Alphanumerics h
+  name-letters : Alphanumerics h
   name-letters = held-alphanumeric h (on .name)
 
   -- It is short.

@@ -47,7 +47,7 @@ use Rattle.decoder.specs.Turns.{Fits, Fit}
 use Rattle.decoder.proofs.Tidy.{tidyRest, Alphanumerics, builtin-tidy, begins-some, tidy-name, closed-length}
 
 -- Elements from i on are those of a word.
-abbrev pub spells : List ℕ → ℕ → List ℕ → Bool
+abbrev spells : List ℕ → ℕ → List ℕ → Bool
 spells s i [] = true
 spells s i (a ∷ word) = eqb (getD s i 0) a && spells s (suc i) word
 
@@ -93,7 +93,7 @@ pub none-taken : (k : ℕ) (s : List ℕ) → k ≤ length s → eqb k 0 ≡ eqb
 none-taken k s h = ap (λ (n : ℕ). eqb n 0) (sym (length-take-le k s h))
 
 -- Lists that are the same by the test are equal.
-pub same-equal : (s t : List ℕ) → same s t ≡ true → s ≡ t
+same-equal : (s t : List ℕ) → same s t ≡ true → s ≡ t
 unfolding stands
 same-equal [] [] e = refl
 same-equal [] (b ∷ t) e =
@@ -272,7 +272,7 @@ unfolding stands
 intro-hex letter e = rw (and-true (eqb letter (code "x")), and-true (eqb letter (code "X"))) e
 
 -- The store of a state within the limits is what the state says.
-pub fits-holds : (st : St) → Fits st → holds builtin (kindOf st) (storeOf st) ≡ true
+fits-holds : (st : St) → Fits st → holds builtin (kindOf st) (storeOf st) ≡ true
 unfolding holds kindOf storeOf stands Fits
 fits-holds Data f = refl
 fits-holds AfterCr f = refl

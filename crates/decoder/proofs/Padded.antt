@@ -13,7 +13,7 @@ pub padded-length : (n : ℕ) (l : List ℕ) → length l ≤ n → length (padd
 padded-length n l h = length-append l (replicate (n - length l) 0) ∙ ap (λ (k : ℕ). length l + k) (length-replicate (n - length l) 0) ∙ omega arith
 
 -- One element more is stored after the list.
-pub padded-more : (n : ℕ) (l : List ℕ) (k b : ℕ) → length l ≡ k → k < n → set (padded n l) k b ≡ padded n (l ++ b ∷ [])
+padded-more : (n : ℕ) (l : List ℕ) (k b : ℕ) → length l ≡ k → k < n → set (padded n l) k b ≡ padded n (l ++ b ∷ [])
 padded-more n l k b e h =
     let m : n - length l ≡ suc (n - length (l ++ b ∷ [])) = simp length-append (omega arith) in
     ap (λ (j : ℕ). set (l ++ replicate j 0) k b) m ∙ set-at l 0 (replicate (n - length (l ++ b ∷ [])) 0) b k e

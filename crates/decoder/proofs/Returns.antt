@@ -234,10 +234,10 @@ module _ (r : Stream) (op : Opened r) {x : Stream} (is : x ≡ recordOf (r .cont
   cleared-open = subst Open (sym is) (open-record (r .context) (opened-at r op))
 
   -- It says where the same stream is.
-  pub cleared-at : atOf x ≡ atOf r
+  cleared-at : atOf x ≡ atOf r
   cleared-at = ap atOf is ∙ at-back (r .context) (atOf r) (open-fits (r .held) (op .stored))
 
-  pub cleared-context : x .context ≡ r .context
+  cleared-context : x .context ≡ r .context
   unfolding recordOf
   cleared-context = ap (λ (y : Stream). y .context) is
 

@@ -105,12 +105,12 @@ module _ {context : Context} {r : Stream} {t : List ℕ} {g : Reading} (s : Stan
   unfolding recordOf
   standing-taken = ap (λ (x : Stream). x .taken) (s .recorded) ∙ taken-here
 
-  pub standing-context : r .context ≡ context
+  standing-context : r .context ≡ context
   unfolding recordOf
   standing-context = ap (λ (x : Stream). x .context) (s .recorded)
 
   -- The record says where the stream is.
-  pub standing-at : atOf r ≡ s .here
+  standing-at : atOf r ≡ s .here
   standing-at = ap atOf (s .recorded) ∙ at-back context (s .here) (s .sound .opened .fits)
 
   -- It counts as open.
@@ -125,7 +125,7 @@ module _ {context : Context} {r : Stream} {t : List ℕ} {g : Reading} (s : Stan
   abbrev walked : List ℕ → (text errors : ℕ) → Walked
   walked chunk text errors = walk builtin (r .context) text errors (atOf r) chunk
 
-  pub walked-here : (chunk : List ℕ) (text errors : ℕ) → walked chunk text errors ≡ walk builtin context text errors (s .here) chunk
+  walked-here : (chunk : List ℕ) (text errors : ℕ) → walked chunk text errors ≡ walk builtin context text errors (s .here) chunk
   walked-here chunk text errors =
       ap₂ (λ (c : Context) (at : At). walk builtin c text errors at chunk) standing-context standing-at
 
@@ -141,7 +141,7 @@ module _ {context : Context} {r : Stream} {t : List ℕ} {g : Reading} (s : Stan
     pub some : lacksRoom text errors ≡ false → w .answer ≡ room-used-up → 0 < count
     pub says : (w .answer ≡ done) ⊎ ((w .answer ≡ room-used-up) ⊎ (closes (w .answer) ≡ true))
 
-  pub walk-after : (chunk : List ℕ) (text errors : ℕ) → After text errors chunk (walk builtin context text errors (s .here) chunk)
+  walk-after : (chunk : List ℕ) (text errors : ℕ) → After text errors chunk (walk builtin context text errors (s .here) chunk)
   walk-after chunk text errors = record {
     count = took .count;
     within = took .within;
@@ -167,7 +167,7 @@ module _ {context : Context} {r : Stream} {t : List ℕ} {g : Reading} (s : Stan
           ∙ ap (onward g) (took .taken)
 
   -- After a call that does not close the stream it stands where its walk ended.
-  pub standing-on : (chunk : List ℕ) (text errors : ℕ) → let w = walk builtin context text errors (s .here) chunk in
+  standing-on : (chunk : List ℕ) (text errors : ℕ) → let w = walk builtin context text errors (s .here) chunk in
       closes (w .answer) ≡ false → length t + length chunk ≤ longest-stream
       → Standing context (recordOf context (w .stop)) (t ++ take (w .stop .taken - length t) chunk) (g ⊕ w .gives)
   standing-on chunk text errors e short =

@@ -21,7 +21,7 @@ use Rattle.decoder.specs.Runs.{endOf, ordinary}
 use Rattle.decoder.proofs.Quiet.{ordinary-is}
 
 -- The place after a run of ordinary bytes.
-abbrev pub runEnd : Context → List ℕ → ℕ → ℕ
+abbrev runEnd : Context → List ℕ → ℕ → ℕ
 runEnd context s at = at + length (front (ordinary (endOf context)) (drop at s))
 
 module _ (context : Context) {s : List ℕ} {at : ℕ} (l : Looking (callsFor context) s at) where

@@ -130,7 +130,7 @@ module _ (names : List Name) (context : Context) (tidy : Tidy names) where
           ∙ ap (λ (n : ℕ). stopFrom calls 0 n t) (sym (length-append w own))
 
   -- Before the first byte.
-  pub at-start : Reached names context [] nothing start
+  at-start : Reached names context [] nothing start
   unfolding readChar
   at-start = record {
     characters = [];

@@ -182,13 +182,13 @@ module _ {start : Stream} {chunk text₀ errors₀ : List ℕ} where
     pub taken-open : Open r
     taken-open = subst Open (sym (g .recorded)) (open-record (start .context) (g .still-open))
 
-    pub taken-at : atOf r ≡ g .here
+    taken-at : atOf r ≡ g .here
     taken-at = ap atOf (g .recorded) ∙ at-back (start .context) (g .here) (g .still-open .fits)
 
     pub taken-count : r .taken ≡ start .taken + at
     taken-count = ap (λ (x : At). x .taken) taken-at ∙ g .taken-is
 
-    pub taken-context : r .context ≡ start .context
+    taken-context : r .context ≡ start .context
     unfolding recordOf
     taken-context = ap (λ (x : Stream). x .context) (g .recorded)
 
@@ -251,7 +251,7 @@ module _ {start : Stream} {chunk text₀ errors₀ : List ℕ} where
         (m .errors-in) (omega (arith, m .text-few, g .text-few)) (omega (arith, m .errors-few, g .errors-few)))
 
     -- The walk ends here.
-    pub taken-ends : {x : code.Walked} {text′ errors′ : List ℕ} (a : ℕ) (gives : Reading) (stop : At)
+    taken-ends : {x : code.Walked} {text′ errors′ : List ℕ} (a : ℕ) (gives : Reading) (stop : At)
         → walk builtin (start .context) (length text - w) (length errors - e) (g .here) (drop at chunk) ≡ stopsAt a gives stop → x .answer ≡ a
         → x .«record» ≡ recordOf (start .context) stop → Wrote gives text w text′ (x .text) errors e errors′ (x .errors)
         → Walks (start .context) (whole start chunk text₀ errors₀) text₀ 0 errors₀ 0 x text′ errors′

@@ -75,7 +75,7 @@ module _ (base : ℕ) (few : base ≤ 16) (c : ℕ) {b digit : ℕ} (is : b ≡ 
   ascii-no-digit h = sym digit-test ∙ le-ltb digit base h
 
 -- What holds a state's bytes in its case at its place is that state as it is held.
-pub held-as : (st : St) {held : Held} → held .state ≡ kindOf st → held .place ≡ markOf st → Stored held (storeOf st) → held ≡ heldOf st
+held-as : (st : St) {held : Held} → held .state ≡ kindOf st → held .place ≡ markOf st → Stored held (storeOf st) → held ≡ heldOf st
 unfolding heldOf
 held-as st e f stored = λ i. record { state = e i; place = f i; store = stored .store-is i; count = stored .count-is i }
 
@@ -203,7 +203,7 @@ module _ {held : Held} {s : List ℕ} (stored : Stored held s) where
 -- What is held, where it fits and its case is known.
 module _ {held : Held} {kind : State} (fit : Fit held) (is : held .state ≡ kind) where
   -- The state that it is.
-  abbrev pub told : St
+  abbrev told : St
   told = stBy kind (held .place) (take (held .count) (held .store))
 
   -- It is that state as it is held.

@@ -102,7 +102,7 @@ wide-bytes c h =
     high = if-both (λ (n : ℕ). 0x80 ≤ n) (scalar c) c 0xFFFD (λ _. h) (λ _. omega arith)
 
 -- The byte of a character of ASCII.
-pub ascii-byte : (c : ℕ) → c < 0x80 → encode c ≡ asciiOf c ∷ []
+ascii-byte : (c : ℕ) → c < 0x80 → encode c ≡ asciiOf c ∷ []
 unfolding asciiOf
 ascii-byte c h = own-byte c h ∙ rw (lt-ltb c 0x80 h)
 

@@ -70,13 +70,13 @@ module _ {width : ℕ} {lay : List ℕ → List ℕ} (laid : Laying width lay) {
     run-split p plain = joined-run names context p plain (drop at s) at ∙ rw (drop-drop (length (front p (drop at s))) at s)
 
     -- A run of plain bytes has room.
-    pub run-room : Narrow names → (p : ℕ → Bool) → ((b : ℕ) → p b ≡ true → Plain b) → w + length (front p (drop at s)) ≤ length s
+    run-room : Narrow names → (p : ℕ → Bool) → ((b : ℕ) → p b ≡ true → Plain b) → w + length (front p (drop at s)) ≤ length s
     run-room narrow p plain =
         let t = ap (λ (r : Reading). length (r .text)) (ap (λ (r : Reading). g .so-far ⊕ r) (sym (run-split p plain)) ∙ g .whole) in
         omega (arith, g .wrote .texts .next-is, simp length-append at t, text-fits names context s narrow)
 
     -- A run of plain bytes is copied.
-    pub going-run : {text′ : List ℕ} {w′ : ℕ} (p : ℕ → Bool) → ((b : ℕ) → p b ≡ true → Plain b) → (next : ℕ)
+    going-run : {text′ : List ℕ} {w′ : ℕ} (p : ℕ → Bool) → ((b : ℕ) → p b ≡ true → Plain b) → (next : ℕ)
         → next ≡ at + length (front p (drop at s)) → next ≤ length s → Put text w (front p (drop at s)) text′ w′
         → Going lay names context s text₀ errors₀ next text′ w′ errors e
     going-run p plain next is there put =
@@ -84,7 +84,7 @@ module _ {width : ℕ} {lay : List ℕ → List ℕ} (laid : Laying width lay) {
         (run-split p plain ∙ ap (λ (n : ℕ). reading (front p (drop at s)) [] ⊕ rest names context s n) (sym is)) (by-text laid errors e put)
 
     -- A piece is written.
-    pub going-piece : {text′ errors′ : List ℕ} {w′ e′ : ℕ} (q : standard.Piece) → q ≡ pieceAt names context (drop at s) → at < length s
+    going-piece : {text′ errors′ : List ℕ} {w′ e′ : ℕ} (q : standard.Piece) → q ≡ pieceAt names context (drop at s) → at < length s
         → WroteBy lay (readingAt at q) text w text′ w′ errors e errors′ e′
         → Going lay names context s text₀ errors₀ (at + q .size) text′ w′ errors′ e′
     unfolding joined

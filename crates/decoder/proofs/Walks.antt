@@ -33,7 +33,7 @@ Beyond k (Illformed n) = k ≤ n
 Beyond k End = Unit {0}
 
 -- The first bytes of what is read beyond them are a beginning of a character.
-pub read-begun : (s t : List ℕ) (r : CharRead) → readChar (s ++ t) ≡ r → 0 < length s → Beyond (length s) r → readChar s ≡ Incomplete (length s)
+read-begun : (s t : List ℕ) (r : CharRead) → readChar (s ++ t) ≡ r → 0 < length s → Beyond (length s) r → readChar s ≡ Incomplete (length s)
 read-begun s t r e some beyond = go (readChar s) refl
   where
     far : (q : CharRead) → readChar (s ++ t) ≡ q → Beyond (length s) q
@@ -46,7 +46,7 @@ read-begun s t r e some beyond = go (readChar s) refl
     go End f = absurd (omega (arith, end-length s f))
 
 -- The bytes of a character up to b.
-pub own-take : (part : List ℕ) (b n : ℕ) (s : List ℕ) → n ≡ suc (length part) → take n (part ++ b ∷ s) ≡ part ++ b ∷ []
+own-take : (part : List ℕ) (b n : ℕ) (s : List ℕ) → n ≡ suc (length part) → take n (part ++ b ∷ s) ≡ part ++ b ∷ []
 own-take part b n s e =
     ap (take n) (sym (append-assoc part (b ∷ []) s)) ∙ take-at (part ++ b ∷ []) s n (length-append part (b ∷ []) ∙ omega arith)
 
@@ -289,7 +289,7 @@ module _ (names : List Name) (context : Context) (text errors : ℕ) where
             ∙ ap (λ (l : List ℕ). next (taken - length part) (taken + (n - length part)) c l (drop (n - length part) (b ∷ s))) (sym is)
 
     -- Bytes that end inside a character.
-    pub walk-part : (part : List ℕ) (taken n : ℕ) (s : List ℕ) → readChar (part ++ s) ≡ Incomplete n
+    walk-part : (part : List ℕ) (taken n : ℕ) (s : List ℕ) → readChar (part ++ s) ≡ Incomplete n
         → from part taken s ≡ stopsAt done nothing (atBy st (part ++ s) (taken + length s))
     unfolding walk
     walk-part part taken n [] e =
@@ -302,7 +302,7 @@ module _ (names : List Name) (context : Context) (text errors : ℕ) where
         (let i : suc taken + length s ≡ taken + suc (length s) = omega arith in i)
 
     -- An ill-formed byte after n bytes of its character.
-    pub walk-illformed : (part : List ℕ) (taken n : ℕ) (s : List ℕ) → readChar (part ++ s) ≡ Illformed n → length part ≤ n
+    walk-illformed : (part : List ℕ) (taken n : ℕ) (s : List ℕ) → readChar (part ++ s) ≡ Illformed n → length part ≤ n
         → from part taken s ≡ stopsAt ill-formed nothing (atBy st (take n (part ++ s)) (taken + (n - length part)))
     walk-illformed part taken n [] e there = absurd (omega (arith, illformed-length (part ++ []) n e, length-append part []))
     walk-illformed part taken n (b ∷ s) e there =
@@ -335,7 +335,7 @@ module _ (names : List Name) (context : Context) (text errors : ℕ) where
             (let i : taken ≡ taken + (n - length part) = omega arith in i)
 
     -- A character that is not taken: of one byte, where none of its bytes stand before it.
-    pub walk-stop : (taken c n : ℕ) (s : List ℕ) → readChar s ≡ Char c n → n ≡ 1 → callsFor context c ≢ done
+    walk-stop : (taken c n : ℕ) (s : List ℕ) → readChar s ≡ Char c n → n ≡ 1 → callsFor context c ≢ done
         → from [] taken s ≡ stopsAt (callsFor context c) (lastOf names context (callsFor context c) st) (atBy st [] taken)
     walk-stop taken c n [] e one calls = absurd (omega (arith, read-length [] c n e))
     walk-stop taken c n (b ∷ s) e one calls =

@@ -23,7 +23,7 @@ use Rattle.escaper.specs.Escape.{writtenFor}
 use Rattle.escaper.specs.Walk.{quoteOf, quiet, specialOf, sourceLength, textOf}
 
 -- A character c of n bytes is what x says: it has as many bytes, and the same is written for it.
-abbrev pub Begun : Mode → (c n : ℕ) → Special → Type 0
+abbrev Begun : Mode → (c n : ℕ) → Special → Type 0
 Begun mode c n x = (n ≡ sourceLength x) × ((own : List ℕ) → writtenFor mode c own ≡ textOf x own)
 
 -- An ASCII byte is a character of its own.

@@ -78,7 +78,7 @@ unfolding escapeFrom
 escape-skip mode = skip-drops (escapeFrom mode) (λ k. refl) (λ k b s. refl)
 
 -- The result begins with what is written for the first character.
-pub escape-unfold : (mode : Mode) (s : List ℕ) (c n : ℕ) → readChar s ≡ Char c n
+escape-unfold : (mode : Mode) (s : List ℕ) (c n : ℕ) → readChar s ≡ Char c n
     → escape mode s ≡ writtenFor mode c (take n s) ++ escape mode (drop n s)
 unfolding escapeFrom readChar
 escape-unfold mode [] c n e = absurd (is-char e)

@@ -104,7 +104,7 @@ module _ {context : Context} {s out errors out′ errors′ : List ℕ} {r : Dec
         let w = answer-says (length errors) context s out errors context-end (answers ∙ f) (call .decodes) in rw (f, w .0)
 
     -- Of any other nothing was written, and its last line is its report.
-    pub refused-so : (r .answer ≡ done → ⊥) → (r .answer ≡ context-end → ⊥) → (out′ ≡ out) × (errors′ ≡ errors)
+    refused-so : (r .answer ≡ done → ⊥) → (r .answer ≡ context-end → ⊥) → (out′ ≡ out) × (errors′ ≡ errors)
         × (sourceReport context s ≡ line (bytes "refused " ++ pair (r .answer) (r .place))) × (sourceErrors context s ≡ [])
     unfolding sourceReport sourceErrors closingLine numbers
     refused-so x y = go (stops-with context s)

@@ -78,7 +78,7 @@ plain-blank b (inl e) = rw e (omega arith, refl, refl, refl)
 plain-blank b (inr e) = rw e (omega arith, refl, refl, refl)
 
 -- Such a byte is a piece of its own.
-pub plain-piece : (names : List Name) (context : Context) (b : ℕ) (s : List ℕ) → Plain b → pieceAt names context (b ∷ s) ≡ piece 1 (b ∷ []) []
+plain-piece : (names : List Name) (context : Context) (b : ℕ) (s : List ℕ) → Plain b → pieceAt names context (b ∷ s) ≡ piece 1 (b ∷ []) []
 unfolding pieceAt
 plain-piece names context b s h = rw (h .1, h .2, read-ascii b s (h .0), h .3)
 

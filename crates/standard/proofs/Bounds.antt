@@ -52,7 +52,7 @@ join-fits : {A : Type 0} (k : ℕ) (s : List ℕ) (a b : List A) → k ≤ lengt
 join-fits k s a b h i j = simp length-append (omega (arith, length-drop k s))
 
 -- A reading fits in n bytes: it has no more errors, and with narrow names no longer a text.
-abbrev pub ReadingFits : List Name → ℕ → Reading → Type 0
+abbrev ReadingFits : List Name → ℕ → Reading → Type 0
 ReadingFits names n r = (length (r .errors) ≤ n) × (Narrow names → length (r .text) ≤ n)
 
 -- What is read of a source fits in its bytes.

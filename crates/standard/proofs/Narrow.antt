@@ -17,7 +17,7 @@ use Rattle.standard.specs.NameList.{builtin}
 use Rattle.standard.specs.Pieces.{encodes, charRefText}
 
 -- A name is narrow: it is not empty, and its text is not longer than it is with its `&`.
-abbrev pub NarrowName : Name → Type 0
+abbrev NarrowName : Name → Type 0
 NarrowName n = (1 ≤ length (n .word)) × (length (charRefText (charRef (n .first) (n .second))) ≤ suc (length (n .word)))
 
 -- Every name is narrow.
@@ -25,11 +25,11 @@ abbrev pub Narrow : List Name → Type 0
 Narrow names = All NarrowName names
 
 -- The test of a narrow name.
-abbrev pub narrow-name : Name → Bool
+abbrev narrow-name : Name → Bool
 narrow-name n = leb 1 (length (n .word)) && leb (length (charRefText (charRef (n .first) (n .second)))) (suc (length (n .word)))
 
 -- Names that pass the test are narrow.
-pub narrow-by-test : (names : List Name) → every narrow-name names ≡ true → Narrow names
+narrow-by-test : (names : List Name) → every narrow-name names ≡ true → Narrow names
 narrow-by-test = every-all NarrowName narrow-name go
   where
     go : (n : Name) → narrow-name n ≡ true → NarrowName n

@@ -41,7 +41,7 @@ octets-sixes (suc (suc (suc zero))) c h =
 octets-sixes (suc (suc (suc (suc n)))) c h = absurd h
 
 -- A number below 0x110000 and not in the block of the surrogates is a scalar value.
-pub is-scalar : (c : ℕ) → c < 0x110000 → c / 0x800 ≢ 0x1B → scalar c ≡ true
+is-scalar : (c : ℕ) → c < 0x110000 → c / 0x800 ≢ 0x1B → scalar c ≡ true
 is-scalar c p q =
     ⊎-elim (λ (t : c < 0xD800). rw (lt-ltb c 0xD800 t)) (λ (t : 0xD800 ≤ c).
     rw (le-ltb c 0xD800 t) (inside-between 0xE000 0x10FFFF c (omega arith) (omega arith))) (below? c 0xD800)
@@ -55,7 +55,7 @@ size-scalar (suc (suc (suc zero))) c h = is-scalar c (omega arith) (omega arith)
 size-scalar (suc (suc (suc (suc n)))) c h = absurd h
 
 -- A scalar value is below 0x110000 and not in the block of the surrogates.
-pub scalar-true : (c : ℕ) → scalar c ≡ true → (c < 0x110000) × (c / 0x800 ≢ 0x1B)
+scalar-true : (c : ℕ) → scalar c ≡ true → (c < 0x110000) × (c / 0x800 ≢ 0x1B)
 scalar-true c e =
     ⊎-elim (λ (t : ltb c 0xD800 ≡ true). omega facts) (λ (t : between 0xE000 0x10FFFF c ≡ true). omega (arith, between-true 0xE000 0x10FFFF c t))
     (or-true (ltb c 0xD800) (between 0xE000 0x10FFFF c) e)

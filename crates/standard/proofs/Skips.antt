@@ -34,7 +34,7 @@ unfolding piecesFrom
 pieces-skip names context = skip-drops (piecesFrom names context) (λ k. refl) (λ k b s. refl)
 
 -- The records after k bytes are those of the rest.
-pub records-skip : (k : ℕ) (l : List ℕ) → recordsFrom k l ≡ recordsFrom 0 (drop k l)
+records-skip : (k : ℕ) (l : List ℕ) → recordsFrom k l ≡ recordsFrom 0 (drop k l)
 unfolding recordsFrom
 records-skip = skip-drops recordsFrom (λ k. refl) (λ k b s. refl)
 

@@ -129,7 +129,7 @@ pub lead-most : (b need low high bits : ℕ) → leadOf b ≡ Good need low high
 lead-most b need low high bits e = let k = subst (Fits b) e (lead-fits b) in (k .few, k .small)
 
 -- The answer is a whole character.
-abbrev pub IsChar : CharRead → Type 0
+abbrev IsChar : CharRead → Type 0
 IsChar (Char a m) = Unit {0}
 IsChar (Incomplete n) = ⊥
 IsChar (Illformed n) = ⊥
