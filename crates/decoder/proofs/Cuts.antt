@@ -1,6 +1,5 @@
 -- The walk over a chunk with its rooms is the walk over the bytes that it takes, and leaves the stream open.
 use Prim.Native.Nat.{ℕ, suc, _+_, _-_, _*_, _≤_, _<_}
-use Prim.Native.Char.{code}
 use mathlib.Core.Path.{_≡_, refl, sym, _∙_, ap, subst}
 use mathlib.Core.List.{List, [], _∷_, _++_}
 use mathlib.Core.Bool.{Bool, true, false, not}
@@ -8,23 +7,21 @@ use mathlib.Core.Logic.{_≢_, _⊎_, inl, inr}
 use native.Mathlib.Omega.{arith}
 use lib.Dec.{eqb}
 use lib.ListN.{length, take, length-append}
-use borrow.Author.Tests.{eqb-true, eqb-false, lt-ltb}
+use borrow.Author.Tests.{eqb-true, eqb-false}
 use Rattle.lists.specs.Notation.{if_then_else_}
-use Rattle.lists.proofs.Choice.{if-both, no-way}
+use Rattle.lists.proofs.Choice.{no-way}
 use Rattle.standard.specs.declared.Context.{Context}
-use Rattle.standard.specs.declared.Context.the-variants.{Text, Attribute}
 use Rattle.standard.specs.declared.characters.CharRead.{CharRead}
 use Rattle.standard.specs.declared.characters.CharRead.the-variants.{Char, Incomplete, Illformed, End}
-use Rattle.standard.specs.Utf8.{readChar, octets, encode}
+use Rattle.standard.specs.Utf8.{readChar, encode}
 use Rattle.standard.specs.Answers.{done, room-used-up, context-end}
 use Rattle.standard.specs.Names.{Name}
 use Rattle.standard.specs.NameList.{builtin}
 use Rattle.standard.specs.Reading.{callsFor, Reading, _⊕_}
-use Rattle.standard.specs.Contexts as Contexts
-use Rattle.standard.specs.Contexts.{refused}
 use Rattle.standard.proofs.Joining.{⊕-assoc}
 use Rattle.standard.proofs.RoundTrip.{encode-short}
 use Rattle.standard.proofs.Utf8.{end-length}
+use Rattle.standard.proofs.Stops.{OneOf}
 use Rattle.decoder.specs.Machine.{nothing, step}
 use Rattle.decoder.specs.Stream.{
   At,
@@ -47,6 +44,7 @@ use Rattle.decoder.specs.Feeding.{OpenAt, byteWalk}
 use Rattle.decoder.proofs.Bytes.{go}
 use Rattle.decoder.proofs.Keeps.{step-keeps}
 use Rattle.decoder.proofs.Taking.{own-encoded, open-byte}
+use Rattle.decoder.proofs.Calling.{called-one, end-called}
 
 module _ (names : List Name) (context : Context) where
   -- What a byte comes to: a stop, or what the rest comes to.
@@ -92,12 +90,13 @@ module _ (names : List Name) (context : Context) where
 
   -- What the bytes of a character so far call for is nothing, or closes the stream.
   called : (r : CharRead) → (calledFor context r ≡ done) ⊎ (closes (calledFor context r) ≡ true)
-  called (Char c n) =
-      if-both (λ (a : ℕ). (a ≡ done) ⊎ (closes a ≡ true)) (refused context c) _ _ (λ e. inr refl)
-      (λ e. if-both (λ (a : ℕ). (a ≡ done) ⊎ (closes a ≡ true)) (Contexts.ends context c) _ _ (λ f. inr refl) (λ f. inl refl))
-  called (Incomplete n) = inl refl
-  called (Illformed n) = inr refl
-  called End = inl refl
+  called r = closing (called-one context r)
+    where
+      closing : {a : ℕ} → OneOf a → (a ≡ done) ⊎ (closes a ≡ true)
+      closing (inl e) = inl e
+      closing (inr (inl e)) = inr (ap closes e)
+      closing (inr (inr (inl e))) = inr (ap closes e)
+      closing (inr (inr (inr e))) = inr (ap closes e)
 
   -- A byte that is taken is counted.
   move-counted : (at : At) (b : ℕ) → let own = at .part ++ b ∷ [] in eqb (calledFor context (readChar own)) done ≡ true
@@ -189,10 +188,10 @@ module _ (names : List Name) (context : Context) where
         says = later .says;
       }
 
--- Where an open stream can be, with its place and its store among the bytes that were taken.
+-- Where a stream can be whose record counts as open: its place and its store are among the bytes that were taken.
 pub record Sound (at : At) : Type 0 where
   pub opened : OpenAt at
-  pub mark-in : markOf (at .st) ≤ placeOf at
+  pub mark-in : markOf (at .st) ≤ at .taken
   pub store-in : length (storeOf (at .st)) + length (at .part) ≤ at .taken
 
 -- A byte that is taken leaves it so.
@@ -220,7 +219,7 @@ sound-byte context {at} b o i = by (readChar own) refl i (open-byte context b (o
     whole c n e true f i opened =
         let own-is = own-encoded (at .part) b c n (o .opened .begun) e in
         let kept =
-        step-keeps (placeOf at) c (placeOf at) (length (storeOf (at .st)) + length (encode c)) (omega arith) (omega (arith, encode-short c)) context
+        step-keeps (placeOf at) c (at .taken) (length (storeOf (at .st)) + length (encode c)) (omega arith) (omega (arith, encode-short c)) context
         (at .st) (o .opened .fits) (o .mark-in) (omega arith) in
         subst (λ (l : List ℕ). OpenAt (atBy (step builtin context (at .st) (placeOf at) c l .next) [] (suc (at .taken)))
         → Sound (atBy (step builtin context (at .st) (placeOf at) c l .next) [] (suc (at .taken)))) own-is
@@ -235,7 +234,7 @@ sound-byte context {at} b o i = by (readChar own) refl i (open-byte context b (o
         → Sound (comes r (calledFor context r) (eqb (calledFor context r) done) .stop)
     by (Char c n) e i opened = whole c n e (eqb (callsFor context c) done) refl i opened
     by (Incomplete n) e i opened =
-        record { opened = opened; mark-in = omega (arith, long, o .mark-in); store-in = omega (arith, long, o .store-in) }
+        record { opened = opened; mark-in = omega (arith, o .mark-in); store-in = omega (arith, long, o .store-in) }
     by (Illformed n) e i opened = absurd (omega arith)
     by End e i opened = absurd (omega (arith, long, end-length own e))
 
@@ -282,59 +281,26 @@ go-sound context at (b ∷ s) {g} {here} o e =
         let stopped = ap (λ (x : Walked). x .stop) e in
         later (rest .gives) (sound-byte context b o (eqb-true (w .answer) done f)) (λ i. stopsAt (answered i) (rest .gives) (stopped i))
 
--- The character at the context's end is one byte.
-end-short : (context : Context) (c : ℕ) → callsFor context c ≡ context-end → length (encode c) ≡ 1
-unfolding encode octets
-end-short context c = if-both (λ (a : ℕ). a ≡ context-end → length (encode c) ≡ 1) (refused context c) _ _ (λ t e. absurd (omega arith)) below
-  where
-    byte : (k : ℕ) → k < 0x80 → eqb c k ≡ true → length (encode c) ≡ 1
-    byte k small e = ap (λ (x : ℕ). length (encode x)) (eqb-true c k e) ∙ rw (lt-ltb k 0xD800 (omega arith)) (rw (lt-ltb k 0x80 small))
-
-    below : refused context c ≡ false → (if Contexts.ends context c then context-end else done) ≡ context-end → length (encode c) ≡ 1
-    below f = go context
-      where
-        go : (context : Context) → (if Contexts.ends context c then context-end else done) ≡ context-end → length (encode c) ≡ 1
-        go Text =
-            if-both (λ (a : ℕ). a ≡ context-end → length (encode c) ≡ 1) (eqb c (code "<")) _ _ (λ t e. byte (code "<") (omega arith) t)
-            (λ t e. absurd (omega arith))
-        go Attribute =
-            if-both (λ (a : ℕ). a ≡ context-end → length (encode c) ≡ 1) (eqb c (code "\"")) _ _ (λ t e. byte (code "\"") (omega arith) t)
-            (λ t e. absurd (omega arith))
-
 -- A byte at which the context ends is the first of its character.
 end-first : (context : Context) {at : At} (b : ℕ) → Sound at → byteWalk builtin context at b .answer ≡ context-end
     → (byteWalk builtin context at b .stop ≡ at) × (at .part ≡ [])
 unfolding byteWalk
-end-first context {at} b o = by (readChar own) refl
+end-first context {at} b o = by (eqb answer done)
   where
     own : List ℕ
     own = at .part ++ b ∷ []
 
-    comes : (r : CharRead) (answer : ℕ) → Bool → Walked
-    comes r answer taken =
+    answer : ℕ
+    answer = calledFor context (readChar own)
+
+    comes : Bool → Walked
+    comes taken =
         if not taken then stopsAt answer (lastOf builtin context answer (at .st)) at
-        else stopsAt done (moveBy builtin context at r own .gives) (moveBy builtin context at r own .to)
+        else stopsAt done (moveBy builtin context at (readChar own) own .gives) (moveBy builtin context at (readChar own) own .to)
 
-    none : (l : List ℕ) → length l ≤ 0 → l ≡ []
-    none [] h = refl
-    none (x ∷ l) h = absurd (omega arith)
-
-    whole : (c n : ℕ) → readChar own ≡ Char c n → (t : Bool)
-        → comes (Char c n) (callsFor context c) t .answer ≡ context-end
-        → (comes (Char c n) (callsFor context c) t .stop ≡ at) × (at .part ≡ [])
-    whole c n e true i = absurd (omega arith)
-    whole c n e false i = (
-      refl,
-      none (at .part)
-          (omega (arith, end-short context c i, ap length (own-encoded (at .part) b c n (o .opened .begun) e), length-append (at .part) (b ∷ []))),
-    )
-
-    by : (r : CharRead) → readChar own ≡ r → comes r (calledFor context r) (eqb (calledFor context r) done) .answer ≡ context-end
-        → (comes r (calledFor context r) (eqb (calledFor context r) done) .stop ≡ at) × (at .part ≡ [])
-    by (Char c n) e i = whole c n e (eqb (callsFor context c) done) i
-    by (Incomplete n) e i = absurd (omega arith)
-    by (Illformed n) e i = absurd (omega arith)
-    by End e i = absurd (omega arith)
+    by : (t : Bool) → comes t .answer ≡ context-end → (comes t .stop ≡ at) × (at .part ≡ [])
+    by true i = absurd (omega arith)
+    by false i = (refl, end-called context (at .part) b (o .opened .begun) .0 i .0)
 
 -- Where a walk meets the context's end no character is incomplete.
 pub go-end : (context : Context) (at : At) (s : List ℕ) {g : Reading} {stop : At} → Sound at

@@ -30,6 +30,7 @@ pub mod StreamReads
 pub mod Open
 pub mod Keeps
 pub mod Returns
+pub mod Calling
 pub mod Cuts
 pub mod Standing
 pub mod Fitting

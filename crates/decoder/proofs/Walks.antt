@@ -55,7 +55,7 @@ onward-twice : (a b : Reading) (w : Walked) → onward a (onward b w) ≡ onward
 onward-twice a b w = ap (λ (g : Reading). stopsAt (w .answer) g (w .stop)) (sym (⊕-assoc a b (w .gives)))
 
 -- A walk that goes on with one after a byte.
-abbrev pub after-byte : (full taken : Bool) → At → Walked → Walked → Walked
+abbrev after-byte : (full taken : Bool) → At → Walked → Walked → Walked
 after-byte full taken at w rest =
     if full then stopsAt room-used-up nothing at else if taken then onward (w .gives) rest else w
 

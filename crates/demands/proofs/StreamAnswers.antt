@@ -57,15 +57,12 @@ use Rattle.decoder.specs.Stream.{
   Feeds,
 }
 use Rattle.standard.proofs.Stops.{OneOf}
+use Rattle.decoder.proofs.Calling.{called-one, ill-called, nul-called, end-called}
 use Rattle.decoder.proofs.Returns.{feed-closed, feed-long, feed-stream-long, feed-room, end-closed, end-room, end-inside, end-done}
 use Rattle.decoder.proofs.Room.{lacks-so, room-so, room?, lacks-only, room-only}
 use Rattle.demands.proofs.Lines.{Line, LineOf}
 use Rattle.demands.proofs.Held.{By, Calls, left, closed-closed}
 use Rattle.demands.proofs.WalkStops.{
-  called-one,
-  ill-called,
-  nul-called,
-  end-called,
   Stays,
   walk-lacks,
   walk-meets,

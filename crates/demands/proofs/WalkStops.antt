@@ -1,36 +1,25 @@
 -- Where the walk over a chunk stops: all bytes are taken, or those before one that lacks its room or that calls for an answer.
-use Prim.Native.Nat.{ℕ, suc, _+_, _-_, _*_, _≤_, _<_}
-use Prim.Native.Char.{code}
+use Prim.Native.Nat.{ℕ, _+_, _-_, _*_, _≤_}
 use mathlib.Core.Path.{_≡_, refl, sym, _∙_, ap, ap₂, subst}
 use mathlib.Core.List.{List, [], _∷_, _++_}
-use mathlib.Core.Bool.{Bool, true, false, not}
-use mathlib.Core.Logic.{_≢_, _↔_, _⊎_, inl, inr}
+use mathlib.Core.Bool.{Bool, true, false}
+use mathlib.Core.Logic.{_≢_, _⊎_, inl, inr}
 use native.Mathlib.Omega.{arith}
 use lib.Dec.{eqb}
-use lib.ListN.{length, getD, take, length-append, length-take}
-use borrow.Author.Tests.{eqb-true, eqb-false, ne-eqb, lt-ltb}
-use Rattle.lists.specs.Notation.{if_then_else_}
-use Rattle.lists.proofs.Choice.{if-both}
+use lib.ListN.{length, take, length-append, length-take}
+use borrow.Author.Tests.{eqb-false, ne-eqb}
 use Rattle.standard.specs.declared.Context.{Context}
-use Rattle.standard.specs.declared.Context.the-variants.{Text, Attribute}
-use Rattle.standard.specs.declared.characters.CharRead.{CharRead}
-use Rattle.standard.specs.declared.characters.CharRead.the-variants.{Char, Incomplete, Illformed, End}
-use Rattle.standard.specs.Utf8.{readChar, octets, encode}
-use Rattle.standard.specs.Answers.{done, ill-formed, nul, room-used-up, context-end}
+use Rattle.standard.specs.Utf8.{readChar}
+use Rattle.standard.specs.Answers.{done, room-used-up}
 use Rattle.standard.specs.NameList.{builtin}
-use Rattle.standard.specs.Reading.{callsFor, Reading, _⊕_}
-use Rattle.standard.specs.Contexts.{refused, ends}
+use Rattle.standard.specs.Reading.{Reading, _⊕_}
 use Rattle.standard.proofs.Joining.{⊕-none}
-use Rattle.standard.proofs.Ascii.{read-ascii}
-use Rattle.standard.proofs.RoundTrip.{encode-short}
-use Rattle.standard.proofs.Utf8.{end-length}
 use Rattle.decoder.specs.declared.stream.State.{State}
 use Rattle.decoder.specs.declared.stream.State.the-variants as kind
 use Rattle.decoder.specs.declared.stream.Stream.{Stream}
-use Rattle.decoder.specs.Machine.{nothing, step}
+use Rattle.decoder.specs.Machine.{nothing}
 use Rattle.decoder.specs.Stream.{
   At,
-  atBy,
   placeOf,
   calledFor,
   Move,
@@ -41,7 +30,6 @@ use Rattle.decoder.specs.Stream.{
   lastOf,
   lacksRoom,
   walk,
-  storeOf,
   markOf,
   recordOf,
   stBy,
@@ -54,105 +42,10 @@ use Rattle.decoder.specs.Stream.{
   walkedTo,
   feedOf,
 }
-use Rattle.decoder.specs.Feeding.{OpenAt, byteWalk}
-use Rattle.standard.proofs.Stops.{OneOf}
-use Rattle.decoder.proofs.Keeps.{step-keeps}
 use Rattle.decoder.proofs.Open.{store-back, open-again}
 use Rattle.decoder.proofs.Returns.{opened, opened-at, feed-walks}
-use Rattle.decoder.proofs.Taking.{own-encoded, open-byte}
-use Rattle.decoder.proofs.Walks.{walkAfter, walk-on, walk-full, after-byte, walk-byte}
-
--- The answers that the bytes of a character call for.
-pub called-one : (context : Context) (r : CharRead) → OneOf (calledFor context r)
-called-one context (Char c n) =
-    if-both OneOf (refused context c) _ _ (λ t. inr (inr (inl refl)))
-    (λ f. if-both OneOf (ends context c) _ _ (λ t. inr (inr (inr refl))) (λ g. inl refl))
-called-one context (Incomplete n) = inl refl
-called-one context (Illformed n) = inr (inl refl)
-called-one context End = inl refl
-
--- A character below 0x80 that is whole with the next byte is that byte alone.
-own-ascii : (part : List ℕ) (b c n : ℕ) → isPart (readChar part) ≡ true → readChar (part ++ b ∷ []) ≡ Char c n → c < 0x80 → (part ≡ []) × (b ≡ c)
-unfolding encode octets
-own-ascii part b c n begun e small = by part (sym (own-encoded part b c n begun e) ∙ one)
-  where
-    one : encode c ≡ c ∷ []
-    one = rw (lt-ltb c 0xD800 (omega arith)) (rw (lt-ltb c 0x80 small))
-
-    by : (l : List ℕ) → l ++ b ∷ [] ≡ c ∷ [] → (l ≡ []) × (b ≡ c)
-    by [] f = (refl, ap (λ (s : List ℕ). getD s 0 0) f)
-    by (x ∷ l) f = absurd (omega (arith, ap length f, length-append l (b ∷ [])))
-
--- What a character calls for, the other way.
-calls-nul : (context : Context) (c : ℕ) → callsFor context c ≡ nul → c ≡ 0
-calls-nul context c =
-    if-both (λ (a : ℕ). a ≡ nul → c ≡ 0) (refused context c) _ _ (λ t e. eqb-true c 0 t)
-    (λ f. if-both (λ (a : ℕ). a ≡ nul → c ≡ 0) (ends context c) _ _ (λ t e. absurd (omega arith)) (λ t e. absurd (omega arith)))
-
-calls-end : (context : Context) (c : ℕ) → callsFor context c ≡ context-end → ends context c ≡ true
-calls-end context c =
-    if-both (λ (a : ℕ). a ≡ context-end → ends context c ≡ true) (refused context c) _ _ (λ t e. absurd (omega arith))
-    (λ f. if-both (λ (a : ℕ). a ≡ context-end → ends context c ≡ true) (ends context c) _ _ (λ t e. t) (λ t e. absurd (omega arith)))
-
-calls-ill : (context : Context) (c : ℕ) → callsFor context c ≡ ill-formed → ⊥
-calls-ill context c =
-    if-both (λ (a : ℕ). a ≡ ill-formed → ⊥) (refused context c) _ _ (λ t e. omega arith)
-    (λ f. if-both (λ (a : ℕ). a ≡ ill-formed → ⊥) (ends context c) _ _ (λ t e. omega arith) (λ t e. omega arith))
-
--- The character before which a source ends is below 0x80, and is not NUL.
-ends-small : (context : Context) (c : ℕ) → ends context c ≡ true → (c < 0x80) × (0 < c)
-ends-small Text c e = let f = eqb-true c (code "<") e in (omega (arith, f), omega (arith, f))
-ends-small Attribute c e = let f = eqb-true c (code "\"") e in (omega (arith, f), omega (arith, f))
-
--- The bytes of a character call for 1 where the last is ill-formed.
-pub ill-called : (context : Context) (q : CharRead) → (calledFor context q ≡ ill-formed) ↔ ((n : ℕ) × (q ≡ Illformed n))
-ill-called context q = (forth q, λ w. ap (calledFor context) (w .1))
-  where
-    forth : (q : CharRead) → calledFor context q ≡ ill-formed → (n : ℕ) × (q ≡ Illformed n)
-    forth (Char c n) e = absurd (calls-ill context c e)
-    forth (Incomplete n) e = absurd (omega arith)
-    forth (Illformed n) e = (n, refl)
-    forth End e = absurd (omega arith)
-
-module _ (context : Context) (part : List ℕ) (b : ℕ) (begun : isPart (readChar part) ≡ true) where
-  -- They call for 2 where a character begins with NUL.
-  pub nul-called : (calledFor context (readChar (part ++ b ∷ [])) ≡ nul) ↔ ((part ≡ []) × (b ≡ 0))
-  nul-called = (
-    forth (readChar (part ++ b ∷ [])) refl,
-    λ w. ap₂ (λ (l : List ℕ) (x : ℕ). calledFor context (readChar (l ++ x ∷ []))) (w .0) (w .1)
-        ∙ ap (calledFor context) (read-ascii 0 [] (omega arith)),
-  )
-    where
-      forth : (q : CharRead) → readChar (part ++ b ∷ []) ≡ q → calledFor context q ≡ nul → (part ≡ []) × (b ≡ 0)
-      forth (Char c n) f e =
-          let zero-is = calls-nul context c e in
-          let w = own-ascii part b c n begun f (omega (arith, zero-is)) in (w .0, w .1 ∙ zero-is)
-      forth (Incomplete n) f e = absurd (omega arith)
-      forth (Illformed n) f e = absurd (omega arith)
-      forth End f e = absurd (omega arith)
-
-  -- They call for 7 where the next character is the one before which a source ends.
-  pub end-called : (calledFor context (readChar (part ++ b ∷ [])) ≡ context-end) ↔ ((part ≡ []) × (ends context b ≡ true))
-  end-called = (
-    forth (readChar (part ++ b ∷ [])) refl,
-    λ w. let small = ends-small context b (w .1) in
-        ap (λ (l : List ℕ). calledFor context (readChar (l ++ b ∷ []))) (w .0) ∙ ap (calledFor context) (read-ascii b [] (small .0))
-        ∙ rw (ne-eqb b 0 (λ e. omega (arith, small .1)), w .1),
-  )
-    where
-      forth : (q : CharRead) → readChar (part ++ b ∷ []) ≡ q → calledFor context q ≡ context-end → (part ≡ []) × (ends context b ≡ true)
-      forth (Char c n) f e =
-          let ending = calls-end context c e in
-          let w = own-ascii part b c n begun f (ends-small context c ending .0) in (w .0, ap (ends context) (w .1) ∙ ending)
-      forth (Incomplete n) f e = absurd (omega arith)
-      forth (Illformed n) f e = absurd (omega arith)
-      forth End f e = absurd (omega arith)
-
--- Where a stream can be whose record counts as open.
-pub record Within (at : At) : Type 0 where
-  pub opened : OpenAt at
-  pub mark-in : markOf (at .st) ≤ at .taken
-  pub store-in : length (storeOf (at .st)) + length (at .part) ≤ at .taken
+use Rattle.decoder.proofs.Cuts.{Sound, walk-goes, walk-took, go-sound}
+use Rattle.decoder.proofs.Walks.{walkAfter, walk-on, walk-full}
 
 -- The place that a state keeps is the record's, or none.
 mark-by : (k : State) (q : ℕ) (s : List ℕ) → markOf (stBy k q s) ≤ q
@@ -168,8 +61,8 @@ mark-by kind.BogusName q s = omega arith
 mark-by kind.Closed q s = omega arith
 
 -- An open record's stream is there.
-pub open-within : (r : Stream) → isOpen builtin r ≡ true → Within (atOf r)
-open-within r e =
+pub open-sound : (r : Stream) → isOpen builtin r ≡ true → Sound (atOf r)
+open-sound r e =
     let op = opened r e in
     let kept = take (r .held .count) (r .held .store) in
     record {
@@ -185,53 +78,9 @@ open-within r e =
     }
 
 -- And its record counts as open.
-pub within-open : (context : Context) {at : At} → Within at → at .taken ≤ 16777216 → isOpen builtin (recordOf context at) ≡ true
-within-open context {at} w long =
+pub sound-open : (context : Context) {at : At} → Sound at → at .taken ≤ 16777216 → isOpen builtin (recordOf context at) ≡ true
+sound-open context {at} w long =
     open-again context at (w .opened .fits) (w .opened .few) (w .opened .begun) long (w .mark-in) (w .store-in)
-
--- A byte that is taken leaves it there.
-within-byte : (context : Context) {at : At} (b : ℕ) → Within at → byteWalk builtin context at b .answer ≡ done
-    → Within (byteWalk builtin context at b .stop)
-unfolding byteWalk
-within-byte context {at} b o i = by (readChar own) refl i (open-byte context b (o .opened) i .0)
-  where
-    own : List ℕ
-    own = at .part ++ b ∷ []
-
-    long : length own ≡ suc (length (at .part))
-    long = length-append (at .part) (b ∷ []) ∙ omega arith
-
-    -- What is read of it and the bytes before it, as what it comes to.
-    comes : (r : CharRead) (answer : ℕ) → Bool → Walked
-    comes r answer taken =
-        if not taken then stopsAt answer (lastOf builtin context answer (at .st)) at
-        else stopsAt done (moveBy builtin context at r own .gives) (moveBy builtin context at r own .to)
-
-    whole : (c n : ℕ) → readChar own ≡ Char c n → (t : Bool) → eqb (callsFor context c) done ≡ t
-        → comes (Char c n) (callsFor context c) t .answer ≡ done → OpenAt (comes (Char c n) (callsFor context c) t .stop)
-        → Within (comes (Char c n) (callsFor context c) t .stop)
-    whole c n e false f i opened = absurd (omega (arith, eqb-false (callsFor context c) done f))
-    whole c n e true f i opened =
-        let own-is = own-encoded (at .part) b c n (o .opened .begun) e in
-        let kept =
-        step-keeps (placeOf at) c (at .taken) (length (storeOf (at .st)) + length (encode c)) (omega arith) (omega (arith, encode-short c)) context
-        (at .st) (o .opened .fits) (o .mark-in) (omega arith) in
-        subst (λ (l : List ℕ). OpenAt (atBy (step builtin context (at .st) (placeOf at) c l .next) [] (suc (at .taken)))
-        → Within (atBy (step builtin context (at .st) (placeOf at) c l .next) [] (suc (at .taken)))) own-is
-        (λ opened. record {
-          opened = opened;
-          mark-in = omega (arith, kept .mark);
-          store-in = omega (arith, kept .store, o .store-in, long, ap length own-is);
-        }) opened
-
-    by : (r : CharRead) → readChar own ≡ r → comes r (calledFor context r) (eqb (calledFor context r) done) .answer ≡ done
-        → OpenAt (comes r (calledFor context r) (eqb (calledFor context r) done) .stop)
-        → Within (comes r (calledFor context r) (eqb (calledFor context r) done) .stop)
-    by (Char c n) e i opened = whole c n e (eqb (callsFor context c) done) refl i opened
-    by (Incomplete n) e i opened =
-        record { opened = opened; mark-in = omega (arith, o .mark-in); store-in = omega (arith, long, o .store-in) }
-    by (Illformed n) e i opened = absurd (omega arith)
-    by End e i opened = absurd (omega (arith, long, end-length own e))
 
 module _ (context : Context) where
   -- The walk over bytes takes all of them: g is released, and the stream is then here.
@@ -247,33 +96,14 @@ module _ (context : Context) where
   lacksAfter text errors g = lacksRoom (text - length (g .text)) (errors - 2 * length (g .errors))
 
   -- Bytes that are all taken leave the stream open, and are counted.
-  pub takes-within : (text errors : ℕ) (at : At) (s : List ℕ) {g : Reading} {here : At} → Within at → Takes text errors at s g here
-      → Within here × (here .taken ≡ at .taken + length s)
-  unfolding walk
-  takes-within text errors at [] {g} {here} o e =
-      let is : at ≡ here = ap (λ (w : Walked). w .stop) e in
-      (subst Within is o, ap (λ (x : At). x .taken) (sym is) ∙ omega arith)
-  takes-within text errors at (b ∷ s) {g} {here} o e =
-      by (lacksRoom text errors) (eqb (w .answer) done) refl (sym (walk-byte builtin context text errors at b s) ∙ e)
-      (λ k g f. takes-within (text - length (w .gives .text)) (errors - 2 * length (w .gives .errors)) (w .stop) s k f)
-    where
-      w : Walked
-      w = byteWalk builtin context at b
-
-      rest : Walked
-      rest = walkAfter builtin context (w .gives) text errors (w .stop) s
-
-      by : (full taken : Bool) → eqb (w .answer) done ≡ taken → after-byte full taken at w rest ≡ stopsAt done g here
-          → (Within (w .stop) → (g : Reading) → rest ≡ stopsAt done g here → Within here × (here .taken ≡ w .stop .taken + length s))
-          → Within here × (here .taken ≡ at .taken + suc (length s))
-      by true taken f e later = absurd (omega (arith, ap (λ (x : Walked). x .answer) e))
-      by false false f e later = absurd (omega (arith, eqb-false (w .answer) done f, ap (λ (x : Walked). x .answer) e))
-      by false true f e later =
-          let took = eqb-true (w .answer) done f in
-          let answered = ap (λ (x : Walked). x .answer) e in
-          let stopped = ap (λ (x : Walked). x .stop) e in
-          let on = later (within-byte context b o took) (rest .gives) (λ i. stopsAt (answered i) (rest .gives) (stopped i)) in
-          (on .0, omega (arith, on .1, open-byte context b (o .opened) took .1))
+  pub takes-sound : (text errors : ℕ) (at : At) (s : List ℕ) {g : Reading} {here : At} → Sound at → Takes text errors at s g here
+      → Sound here × (here .taken ≡ at .taken + length s)
+  takes-sound text errors at s o e =
+      let answered = ap (λ (w : Walked). w .answer) e in
+      let all = walk-took builtin context text errors at s in (
+        go-sound context at s o (walk-goes builtin context text errors at s (λ f. omega (arith, answered, f)) ∙ e),
+        omega (arith, all .counted, all .all answered, ap (λ (w : Walked). w .stop .taken) e),
+      )
 
   module _ (text errors : ℕ) (at : At) (before : List ℕ) (b : ℕ) (after : List ℕ) (g : Reading) (here : At)
       (took : Takes text errors at before g here) where
@@ -359,8 +189,8 @@ module _ (r : Stream) (chunk : List ℕ) (t e : ℕ)
 
   module _ (s : List ℕ) {g : Reading} {here : At} (took : Takes (r .context) t e (atOf r) s g here) (fits : length s ≤ length chunk) where
     -- Where the stream then is.
-    there : Within here × (here .taken ≡ r .taken + length s)
-    there = takes-within (r .context) t e (atOf r) s (open-within r (fine .0)) took
+    there : Sound here × (here .taken ≡ r .taken + length s)
+    there = takes-sound (r .context) t e (atOf r) s (open-sound r (fine .0)) took
 
     -- The bytes that are taken are counted.
     pub counted : here .taken ≡ r .taken + length s
@@ -375,7 +205,7 @@ module _ (r : Stream) (chunk : List ℕ) (t e : ℕ)
 
     -- After them the record counts as open.
     pub feed-open : isOpen builtin (recordOf (r .context) here) ≡ true
-    feed-open = within-open (r .context) (there .0) (omega (arith, counted, fine .2))
+    feed-open = sound-open (r .context) (there .0) (omega (arith, counted, fine .2))
 
     -- A walk that ends there and does not close the stream.
     pub feed-stays : (n : ℕ) → closes n ≡ false → walk builtin (r .context) t e (atOf r) chunk ≡ stopsAt n g here

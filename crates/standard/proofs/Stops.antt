@@ -91,10 +91,14 @@ stop-cases P calls none each (suc k) place (b ∷ s) = stop-cases P calls none e
 abbrev pub OneOf : ℕ → Type 0
 OneOf a = (a ≡ done) ⊎ ((a ≡ ill-formed) ⊎ ((a ≡ nul) ⊎ (a ≡ context-end)))
 
-called : (context : Context) (r : CharRead) → OneOf (answerTo (callsFor context) r)
-called context (Char c n) =
+-- A character calls for one of them.
+pub calls-one : (context : Context) (c : ℕ) → OneOf (callsFor context c)
+calls-one context c =
     if-both OneOf (refused context c) _ _ (λ t. inr (inr (inl refl)))
     (λ f. if-both OneOf (ends context c) _ _ (λ t. inr (inr (inr refl))) (λ g. inl refl))
+
+called : (context : Context) (r : CharRead) → OneOf (answerTo (callsFor context) r)
+called context (Char c n) = calls-one context c
 called context (Incomplete n) = inr (inl refl)
 called context (Illformed n) = inr (inl refl)
 called context End = inl refl
