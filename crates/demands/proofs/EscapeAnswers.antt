@@ -1,7 +1,7 @@
 -- Demand 1 for escaping: for each line of the table of answers, when `escape` gives it, and what then holds.
 -- r and out′ are whatever meets the contract of `escape` for an input and a room.
 use Prim.Native.Nat.{ℕ, _≤_, _<_}
-use mathlib.Core.Path.{_≡_, refl, _∙_, ap}
+use mathlib.Core.Path.{_≡_, _∙_, ap}
 use mathlib.Core.List.{List}
 use mathlib.Core.Logic.{_⊎_, inl, inr, ⊎-elim}
 use native.Mathlib.Omega.{arith}
@@ -9,28 +9,12 @@ use lib.ListN.{length}
 use lib.Seq.{sets}
 use borrow.Author.Tests.{lt-ltb, le-ltb}
 use Rattle.lists.proofs.Choice.{below?}
-use Rattle.standard.specs.declared.characters.CharRead.{CharRead}
-use Rattle.standard.specs.declared.characters.CharRead.the-variants.{Char, Incomplete, Illformed, End}
 use Rattle.standard.specs.Answers.{done, ill-formed, too-long, room-asked}
-use Rattle.standard.specs.Reading.{answerTo}
-use Rattle.standard.proofs.Stops.{stop-cases}
 use Rattle.escaper.specs.declared.Mode.{Mode}
 use Rattle.escaper.specs.declared.Escaped.{Escaped}
-use Rattle.escaper.specs.Escape.{escape, stopOf, answerOf, writtenOf, escapedOf, Escapes}
+use Rattle.escaper.specs.Escape.{escape, stopOf, answerOf, writtenOf, escaped, escapedOf, Escapes}
+use Rattle.escaper.proofs.Answered.{stops-with}
 use Rattle.demands.proofs.Lines.{Line, line}
-
-abbrev pub escaped : (answer text place : ℕ) → Escaped
-escaped answer text place = record { answer = answer; text = text; place = place }
-
--- An input stops at its end or at a fault.
-stops-with : (s : List ℕ) → (stopOf s .answer ≡ done) ⊎ (stopOf s .answer ≡ ill-formed)
-stops-with s = stop-cases (λ (a : ℕ). (a ≡ done) ⊎ (a ≡ ill-formed)) (λ c. done) (inl refl) called 0 0 s
-  where
-    called : (r : CharRead) → (answerTo (λ c. done) r ≡ done) ⊎ (answerTo (λ c. done) r ≡ ill-formed)
-    called (Char c n) = inl refl
-    called (Incomplete n) = inr refl
-    called (Illformed n) = inr refl
-    called End = inl refl
 
 module _ (mode : Mode) (s out : List ℕ) (r : Escaped) (out′ : List ℕ) (d : Escapes mode s out r out′) where
   -- The answer by its definition.

@@ -8,8 +8,7 @@ use Rattle.standard.proofs.Computing.{computing}
 use Rattle.escaper.specs.declared.Mode.{Mode}
 use Rattle.escaper.specs.declared.Mode.the-variants.{Text, Attribute}
 use Rattle.escaper.specs.declared.Escaped.{Escaped}
-use Rattle.escaper.specs.Escape.{writtenFor, escapeFrom, answerOf, writtenOf, escapedOf}
-use Rattle.demands.proofs.EscapeAnswers.{escaped}
+use Rattle.escaper.specs.Escape.{writtenFor, escapeFrom, answerOf, writtenOf, escaped, escapedOf}
 
 -- An input with its mode and room, the answer, and what is written.
 pub record EscapeRow : Type 0 where

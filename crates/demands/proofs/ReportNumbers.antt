@@ -22,7 +22,7 @@ use Rattle.decoder.specs.declared.whole.Decoded.{Decoded}
 use Rattle.decoder.specs.Whole.{DecodesBytes}
 use Rattle.escaper.specs.declared.Mode.{Mode}
 use Rattle.escaper.specs.declared.Escaped.{Escaped}
-use Rattle.escaper.specs.Escape.{Escapes}
+use Rattle.escaper.specs.Escape.{escaped, Escapes}
 use Rattle.checker.specs.declared.checking.Checked.{Checked}
 use Rattle.checker.specs.Transcript.{Row, rowsOf, Left, left, right, remains, Verdict, verdict, judge, verdictOn, checked, checkedOf, checkedBytes}
 use Rattle.checker.proofs.RowLaws.{pieces-total}
@@ -135,7 +135,7 @@ pub escape-small : {e : Escaped} {out′ : List ℕ} (mode : Mode) (input out : 
     → All Small (e .answer ∷ e .text ∷ 0 ∷ e .place ∷ [])
 escape-small {e} {out′} mode input out w = go (escape-answers.no-other mode input out e out′ w)
   where
-    given : {answer text place : ℕ} → e ≡ escape-answers.escaped answer text place → Small answer → Small text → Small place
+    given : {answer text place : ℕ} → e ≡ escaped answer text place → Small answer → Small text → Small place
         → All Small (e .answer ∷ e .text ∷ 0 ∷ e .place ∷ [])
     given x a b p = rw x (a, (b, (omega arith, (p, tt))))
 

@@ -1,45 +1,32 @@
 -- The answer for each way through `escape`: 3, 1, 9 and 0.
-use Prim.Native.Nat.{ℕ, zero, suc, _-_, _≤_, _<_}
+use Prim.Native.Nat.{ℕ, _≤_, _<_}
 use mathlib.Core.Path.{_≡_, refl}
-use mathlib.Core.List.{List, [], _∷_}
-use native.Mathlib.Omega.{arith}
-use lib.Dec.{eqb}
+use mathlib.Core.List.{List, []}
+use mathlib.Core.Logic.{_⊎_, inl, inr, ⊎-elim}
 use lib.ListN.{length}
 use borrow.Author.Tests.{lt-ltb, le-ltb, eq-eqb, ne-eqb}
-use Rattle.lists.proofs.Choice.{if-both}
 use Rattle.standard.specs.declared.characters.CharRead.{CharRead}
 use Rattle.standard.specs.declared.characters.CharRead.the-variants.{Char, Incomplete, Illformed, End}
-use Rattle.standard.specs.Utf8.{readChar}
 use Rattle.standard.specs.Answers.{done, ill-formed, too-long, room-asked}
-use Rattle.standard.specs.Reading.{answerTo, sizeOf, Stop, stopFrom}
+use Rattle.standard.specs.Reading.{answerTo}
+use Rattle.standard.proofs.Stops.{stop-cases}
 use Rattle.escaper.specs.declared.Mode.{Mode}
 use Rattle.escaper.specs.declared.Escaped.{Escaped}
-use Rattle.escaper.specs.Escape.{escape, stopOf, answerOf, writtenOf, escapedOf}
+use Rattle.escaper.specs.Escape.{escape, stopOf, answerOf, writtenOf, escaped, escapedOf}
 
--- What is read calls for 0 or 1.
-answer-small : (r : CharRead) → answerTo (λ c. done) r ≤ 1
-answer-small (Char c n) = omega arith
-answer-small (Incomplete n) = omega arith
-answer-small (Illformed n) = omega arith
-answer-small End = omega arith
-
--- An input stops with 0 or 1.
-stop-small : (k place : ℕ) (s : List ℕ) → stopFrom (λ c. done) k place s .answer ≤ 1
-unfolding stopFrom
-stop-small k place [] = omega arith
-stop-small zero place (b ∷ s) =
-    let r : CharRead = readChar (b ∷ s) in
-    let later = stop-small (sizeOf r - 1) (suc place) s in
-    if-both (λ (p : Stop). p .answer ≤ 1) (eqb (answerTo (λ c. done) r) done) _ _ (λ t. later) (λ f. answer-small r)
-stop-small (suc k) place (b ∷ s) = stop-small k (suc place) s
+-- An input stops at its end or at a fault.
+pub stops-with : (s : List ℕ) → (stopOf s .answer ≡ done) ⊎ (stopOf s .answer ≡ ill-formed)
+stops-with s = stop-cases (λ (a : ℕ). (a ≡ done) ⊎ (a ≡ ill-formed)) (λ c. done) (inl refl) called 0 0 s
+  where
+    called : (r : CharRead) → (answerTo (λ c. done) r ≡ done) ⊎ (answerTo (λ c. done) r ≡ ill-formed)
+    called (Char c n) = inl refl
+    called (Incomplete n) = inr refl
+    called (Illformed n) = inr refl
+    called End = inl refl
 
 -- An input without a fault is well-formed.
 pub no-fault : (s : List ℕ) → (stopOf s .answer ≡ ill-formed → ⊥) → stopOf s .answer ≡ done
-no-fault s h = omega (arith, stop-small 0 0 s)
-
--- An answer by its three numbers.
-abbrev pub escaped : ℕ → ℕ → ℕ → Escaped
-escaped answer text place = record { answer = answer; text = text; place = place }
+no-fault s h = ⊎-elim (λ e. e) (λ e. absurd (h e)) (stops-with s)
 
 -- The answer, and what is written.
 abbrev Answered : Mode → List ℕ → ℕ → Escaped → List ℕ → Type 0

@@ -66,15 +66,16 @@ answerOf mode s room =
 unfoldable pub writtenOf : Mode → List ℕ → (room : ℕ) → List ℕ
 writtenOf mode s room = if eqb (answerOf mode s room) done then escape mode s else []
 
+-- An answer, given its number, text bytes and place.
+abbrev pub escaped : (answer text place : ℕ) → Escaped
+escaped answer text place = record { answer = answer; text = text; place = place }
+
 -- The whole answer: its number, the length of the result with 0 and 9, and the place of the fault with 1.
 unfoldable pub escapedOf : Mode → List ℕ → (room : ℕ) → Escaped
 escapedOf mode s room =
     let answer : ℕ = answerOf mode s room in
-    record {
-      answer = answer;
-      text = if eqb answer done || eqb answer room-asked then length (escape mode s) else 0;
-      place = if eqb answer ill-formed then stopOf s .place else 0;
-    }
+    escaped answer (if eqb answer done || eqb answer room-asked then length (escape mode s) else 0)
+    (if eqb answer ill-formed then stopOf s .place else 0)
 
 -- What a call gives for an input and a room: its result, and what the room then holds.
 pub record Escapes (mode : Mode) (input out : List ℕ) (r : Escaped) (out′ : List ℕ) : Type 0 where
