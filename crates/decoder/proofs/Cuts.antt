@@ -17,7 +17,7 @@ use Rattle.standard.specs.Utf8.{readChar, encode}
 use Rattle.standard.specs.Answers.{done, room-used-up, context-end}
 use Rattle.standard.specs.Names.{Name}
 use Rattle.standard.specs.NameList.{builtin}
-use Rattle.standard.specs.Reading.{callsFor, Reading, _⊕_}
+use Rattle.standard.specs.Reading.{Reading, _⊕_}
 use Rattle.standard.proofs.Joining.{⊕-assoc}
 use Rattle.standard.proofs.RoundTrip.{encode-short}
 use Rattle.standard.proofs.Utf8.{end-length}
@@ -43,7 +43,7 @@ use Rattle.decoder.specs.Stream.{
 use Rattle.decoder.specs.Feeding.{OpenAt, byteWalk}
 use Rattle.decoder.proofs.Bytes.{go}
 use Rattle.decoder.proofs.Keeps.{step-keeps}
-use Rattle.decoder.proofs.Taking.{own-encoded, open-byte}
+use Rattle.decoder.proofs.Taking.{own-encoded, byte-cases, open-byte}
 use Rattle.decoder.proofs.Calling.{called-one, end-called}
 
 module _ (names : List Name) (context : Context) where
@@ -112,21 +112,27 @@ module _ (names : List Name) (context : Context) where
       by (Illformed n) e f = no-way (sym f)
       by End e f = absurd (omega (arith, end-length own e, length-append (at .part) (b ∷ [])))
 
+  -- A walk that takes no byte.
+  took-none : (text errors : ℕ) (at : At) (s : List ℕ) (answer : ℕ) → (answer ≡ done → 0 ≡ length s)
+      → (lacksRoom text errors ≡ false → answer ≢ room-used-up) → (answer ≡ done) ⊎ ((answer ≡ room-used-up) ⊎ (closes answer ≡ true))
+      → Took text errors at s (stopsAt answer (lastOf names context answer (at .st)) at)
+  unfolding go
+  took-none text errors at s answer all some says = record {
+    count = 0;
+    within = omega arith;
+    counted = omega arith;
+    before = nothing;
+    taken = refl;
+    gave = refl;
+    all = all;
+    some = λ r e. absurd (some r e);
+    says = says;
+  }
+
   -- A walk took some bytes, and all of them where it says so.
   pub walk-took : (text errors : ℕ) (at : At) (s : List ℕ) → Took text errors at s (walk names context text errors at s)
   unfolding walk go
-  walk-took text errors at [] =
-      record {
-        count = 0;
-        within = omega arith;
-        counted = omega arith;
-        before = nothing;
-        taken = refl;
-        gave = refl;
-        all = λ e. refl;
-        some = λ r e. absurd (omega arith);
-        says = inl refl;
-      }
+  walk-took text errors at [] = took-none text errors at [] done (λ e. refl) (λ r e. omega arith) (inl refl)
   walk-took text errors at (b ∷ s) =
       by (lacksRoom text errors) (eqb (calledFor context (readChar own)) done) refl refl
       (walk names context (text - length (m .gives .text)) (errors - 2 * length (m .gives .errors)) (m .to) s)
@@ -142,28 +148,12 @@ module _ (names : List Name) (context : Context) where
           → Took (text - length (m .gives .text)) (errors - 2 * length (m .gives .errors)) (m .to) s y
           → Took text errors at (b ∷ s) (if full then stopsAt room-used-up nothing at else taking taken (calledFor context (readChar own)) at
           (m .gives) y)
-      by true taken room f y later = record {
-        count = 0;
-        within = omega arith;
-        counted = omega arith;
-        before = nothing;
-        taken = refl;
-        gave = refl;
-        all = λ e. absurd (omega arith);
-        some = λ r e. no-way (sym room ∙ r);
-        says = inr (inl refl);
-      }
-      by false false room f y later = record {
-        count = 0;
-        within = omega arith;
-        counted = omega arith;
-        before = nothing;
-        taken = refl;
-        gave = refl;
-        all = λ e. absurd (omega (arith, eqb-false (calledFor context (readChar own)) done f));
-        some = λ r e. absurd (not-full (called (readChar own)) e);
-        says = inr (inr (not-done (called (readChar own))));
-      }
+      by true taken room f y later =
+          took-none text errors at (b ∷ s) room-used-up (λ e. absurd (omega arith)) (λ r e. no-way (sym room ∙ r)) (inr (inl refl))
+      by false false room f y later =
+          took-none text errors at (b ∷ s) (calledFor context (readChar own))
+          (λ e. absurd (eqb-false (calledFor context (readChar own)) done f e)) (λ r e. not-full (called (readChar own)) e)
+          (inr (inr (not-done (called (readChar own)))))
         where
           not-done : (calledFor context (readChar own) ≡ done) ⊎ (closes (calledFor context (readChar own)) ≡ true)
               → closes (calledFor context (readChar own)) ≡ true
@@ -197,8 +187,10 @@ pub record Sound (at : At) : Type 0 where
 -- A byte that is taken leaves it so.
 sound-byte : (context : Context) {at : At} (b : ℕ) → Sound at → byteWalk builtin context at b .answer ≡ done
     → Sound (byteWalk builtin context at b .stop)
-unfolding byteWalk
-sound-byte context {at} b o i = by (readChar own) refl i (open-byte context b (o .opened) i .0)
+sound-byte context {at} b o i =
+    byte-cases (λ (x : At). OpenAt x → Sound x) context at b whole
+    (λ n e opened. record { opened = opened; mark-in = omega (arith, o .mark-in); store-in = omega (arith, long, o .store-in) }) i
+    (open-byte context b (o .opened) i .0)
   where
     own : List ℕ
     own = at .part ++ b ∷ []
@@ -206,17 +198,9 @@ sound-byte context {at} b o i = by (readChar own) refl i (open-byte context b (o
     long : length own ≡ suc (length (at .part))
     long = length-append (at .part) (b ∷ []) ∙ omega arith
 
-    -- What is read of it and the bytes before it, as what it comes to.
-    comes : (r : CharRead) (answer : ℕ) → Bool → Walked
-    comes r answer taken =
-        if not taken then stopsAt answer (lastOf builtin context answer (at .st)) at
-        else stopsAt done (moveBy builtin context at r own .gives) (moveBy builtin context at r own .to)
-
-    whole : (c n : ℕ) → readChar own ≡ Char c n → (t : Bool) → eqb (callsFor context c) done ≡ t
-        → comes (Char c n) (callsFor context c) t .answer ≡ done → OpenAt (comes (Char c n) (callsFor context c) t .stop)
-        → Sound (comes (Char c n) (callsFor context c) t .stop)
-    whole c n e false f i opened = absurd (omega (arith, eqb-false (callsFor context c) done f))
-    whole c n e true f i opened =
+    whole : (c n : ℕ) → readChar own ≡ Char c n
+        → let here = atBy (step builtin context (at .st) (placeOf at) c own .next) [] (suc (at .taken)) in OpenAt here → Sound here
+    whole c n e =
         let own-is = own-encoded (at .part) b c n (o .opened .begun) e in
         let kept =
         step-keeps (placeOf at) c (at .taken) (length (storeOf (at .st)) + length (encode c)) (omega arith) (omega (arith, encode-short c)) context
@@ -227,16 +211,7 @@ sound-byte context {at} b o i = by (readChar own) refl i (open-byte context b (o
           opened = opened;
           mark-in = omega (arith, kept .mark);
           store-in = omega (arith, kept .store, o .store-in, long, ap length own-is);
-        }) opened
-
-    by : (r : CharRead) → readChar own ≡ r → comes r (calledFor context r) (eqb (calledFor context r) done) .answer ≡ done
-        → OpenAt (comes r (calledFor context r) (eqb (calledFor context r) done) .stop)
-        → Sound (comes r (calledFor context r) (eqb (calledFor context r) done) .stop)
-    by (Char c n) e i opened = whole c n e (eqb (callsFor context c) done) refl i opened
-    by (Incomplete n) e i opened =
-        record { opened = opened; mark-in = omega (arith, o .mark-in); store-in = omega (arith, long, o .store-in) }
-    by (Illformed n) e i opened = absurd (omega arith)
-    by End e i opened = absurd (omega (arith, long, end-length own e))
+        })
 
 -- A walk over bytes begins with its first byte.
 go-byte : (context : Context) (at : At) (b : ℕ) (s : List ℕ)

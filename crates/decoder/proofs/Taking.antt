@@ -26,7 +26,7 @@ use Rattle.standard.proofs.Utf8.{read-end, end-length, incomplete-length}
 use Rattle.decoder.specs.declared.stream.Stream.{Stream}
 use Rattle.decoder.specs.declared.feeding.Walked as code
 use Rattle.decoder.specs.Machine.{nothing, step}
-use Rattle.decoder.specs.Stream.{At, placeOf, calledFor, moveBy, Walked, stopsAt, onward, lastOf, lacksRoom, walk, isPart, recordOf, atOf}
+use Rattle.decoder.specs.Stream.{At, atBy, placeOf, calledFor, moveBy, Walked, stopsAt, onward, lastOf, lacksRoom, walk, isPart, recordOf, atOf}
 use Rattle.decoder.specs.Turns.{Fits}
 use Rattle.decoder.specs.Feeding.{OpenAt, Open, byteWalk, Walks, Bounded, Moves}
 use Rattle.decoder.proofs.Keeps.{step-fits}
@@ -48,17 +48,16 @@ own-encoded part b c n begun e =
     let own = part ++ b ∷ [] in
     read-back own c n e .0 ∙ take-all n own (omega (arith, completes-own part b c n begun e))
 
--- A byte that is taken leaves the stream open, and is counted.
-pub open-byte : (context : Context) {at : At} (b : ℕ) → OpenAt at → byteWalk builtin context at b .answer ≡ done
-    → OpenAt (byteWalk builtin context at b .stop) × (byteWalk builtin context at b .stop .taken ≡ suc (at .taken))
+-- What holds after a byte that makes a character whole, and after one that does not yet, holds after a byte that is taken.
+pub byte-cases : (P : At → Type 0) (context : Context) (at : At) (b : ℕ) → let own = at .part ++ b ∷ [] in
+    ((c n : ℕ) → readChar own ≡ Char c n → P (atBy (step builtin context (at .st) (placeOf at) c own .next) [] (suc (at .taken))))
+    → ((n : ℕ) → readChar own ≡ Incomplete n → P (atBy (at .st) own (suc (at .taken)))) → byteWalk builtin context at b .answer ≡ done
+    → P (byteWalk builtin context at b .stop)
 unfolding byteWalk
-open-byte context {at} b o = by (readChar own) refl
+byte-cases P context at b whole part = by (readChar own) refl
   where
     own : List ℕ
     own = at .part ++ b ∷ []
-
-    long : length own ≡ suc (length (at .part))
-    long = length-append (at .part) (b ∷ []) ∙ omega arith
 
     -- What is read of it and the bytes before it, as what it comes to.
     comes : (r : CharRead) (answer : ℕ) → Bool → Walked
@@ -66,11 +65,24 @@ open-byte context {at} b o = by (readChar own) refl
         if not taken then stopsAt answer (lastOf builtin context answer (at .st)) at
         else stopsAt done (moveBy builtin context at r own .gives) (moveBy builtin context at r own .to)
 
-    whole : (c n : ℕ) → readChar own ≡ Char c n → (t : Bool) → eqb (callsFor context c) done ≡ t
-        → comes (Char c n) (callsFor context c) t .answer ≡ done
-        → OpenAt (comes (Char c n) (callsFor context c) t .stop) × (comes (Char c n) (callsFor context c) t .stop .taken ≡ suc (at .taken))
-    whole c n e false f i = absurd (omega (arith, eqb-false (callsFor context c) done f))
-    whole c n e true f i = (
+    character : (c n : ℕ) → readChar own ≡ Char c n → (t : Bool) → eqb (callsFor context c) done ≡ t
+        → comes (Char c n) (callsFor context c) t .answer ≡ done → P (comes (Char c n) (callsFor context c) t .stop)
+    character c n e false f i = absurd (omega (arith, eqb-false (callsFor context c) done f))
+    character c n e true f i = whole c n e
+
+    by : (r : CharRead) → readChar own ≡ r → comes r (calledFor context r) (eqb (calledFor context r) done) .answer ≡ done
+        → P (comes r (calledFor context r) (eqb (calledFor context r) done) .stop)
+    by (Char c n) e i = character c n e (eqb (callsFor context c) done) refl i
+    by (Incomplete n) e i = part n e
+    by (Illformed n) e i = absurd (omega arith)
+    by End e i = absurd (omega (arith, length-append (at .part) (b ∷ []), end-length own e))
+
+-- A byte that is taken leaves the stream open, and is counted.
+pub open-byte : (context : Context) {at : At} (b : ℕ) → OpenAt at → byteWalk builtin context at b .answer ≡ done
+    → OpenAt (byteWalk builtin context at b .stop) × (byteWalk builtin context at b .stop .taken ≡ suc (at .taken))
+open-byte context {at} b o =
+    byte-cases (λ (x : At). OpenAt x × (x .taken ≡ suc (at .taken))) context at b
+    (λ c n e. (
       record {
         fits =
             subst (λ (l : List ℕ). Fits (step builtin context (at .st) (placeOf at) c l .next)) (own-encoded (at .part) b c n (o .begun) e)
@@ -80,23 +92,16 @@ open-byte context {at} b o = by (readChar own) refl
         there = omega arith;
       },
       refl,
-    )
-
-    by : (r : CharRead) → readChar own ≡ r → comes r (calledFor context r) (eqb (calledFor context r) done) .answer ≡ done
-        → OpenAt (comes r (calledFor context r) (eqb (calledFor context r) done) .stop)
-        × (comes r (calledFor context r) (eqb (calledFor context r) done) .stop .taken ≡ suc (at .taken))
-    by (Char c n) e i = whole c n e (eqb (callsFor context c) done) refl i
-    by (Incomplete n) e i = (
+    ))
+    (λ n e. (
       record {
         fits = o .fits;
-        few = omega (arith, incomplete-length own n e);
+        few = omega (arith, incomplete-length (at .part ++ b ∷ []) n e);
         begun = ap isPart e;
-        there = omega (arith, long, o .there);
+        there = omega (arith, length-append (at .part) (b ∷ []), o .there);
       },
       refl,
-    )
-    by (Illformed n) e i = absurd (omega arith)
-    by End e i = absurd (omega (arith, long, end-length own e))
+    ))
 
 -- A byte that is not taken leaves the stream where it is.
 byte-stays : (context : Context) (at : At) (b : ℕ) → byteWalk builtin context at b .answer ≢ done → byteWalk builtin context at b .stop ≡ at
