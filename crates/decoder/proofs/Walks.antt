@@ -1,26 +1,25 @@
 -- Laws of the walk over a chunk: byte by byte, and then character by character.
 use Prim.Native.Nat.{ℕ, suc, _+_, _-_, _*_, _≤_, _<_}
 use mathlib.Core.Path.{_≡_, refl, sym, _∙_, ap, ap₂, subst}
-use mathlib.Core.List.{List, [], _∷_, _++_, append-assoc, append-nil}
+use mathlib.Core.List.{List, [], _∷_, _++_, append-assoc}
 use mathlib.Core.Bool.{Bool, true, false, not}
 use mathlib.Core.Logic.{_≢_, ⊎-elim}
 use native.Mathlib.Omega.{arith}
 use lib.ListN.{length, take, drop, length-append}
 use lib.Seq.{take-at}
 use lib.Dec.{eqb}
-use borrow.Author.Tests.{ne-eqb, eqb-false}
+use borrow.Author.Tests.{eqb-false}
 use Rattle.lists.specs.Notation.{if_then_else_}
 use Rattle.lists.proofs.Choice.{below?}
 use Rattle.standard.specs.declared.Context.{Context}
 use Rattle.standard.specs.declared.characters.CharRead.{CharRead}
 use Rattle.standard.specs.declared.characters.CharRead.the-variants.{Char, Incomplete, Illformed, End}
 use Rattle.standard.specs.Utf8.{readChar}
-use Rattle.standard.specs.Answers.{done, ill-formed, room-used-up}
+use Rattle.standard.specs.Answers.{done, room-used-up}
 use Rattle.standard.specs.Names.{Name}
 use Rattle.standard.specs.Reading.{callsFor, Reading, _⊕_}
 use Rattle.standard.proofs.Joining.{⊕-assoc, ⊕-none}
 use Rattle.standard.proofs.Utf8.{read-append, read-length, end-length, incomplete-length, illformed-length, read-take}
-use Rattle.standard.proofs.Soonest.{illformed-never}
 use Rattle.decoder.specs.Machine.{St, Step, nothing, step}
 use Rattle.decoder.specs.Feeding.{byteWalk}
 use Rattle.decoder.specs.Stream.{At, atBy, calledFor, Move, moveBy, Walked, stopsAt, onward, lastOf, lacksRoom, walk}
@@ -212,12 +211,6 @@ module _ (names : List Name) (context : Context) (text errors : ℕ) where
     walk-begun part taken b n s e =
         rw (room, e) (ap₂ (λ (t m : ℕ). walk names context t m (atBy st (part ++ b ∷ []) (suc taken)) s) (omega arith) (omega arith))
 
-    -- An ill-formed byte.
-    walk-ill : (part : List ℕ) (taken b n : ℕ) (s : List ℕ) → readChar (part ++ b ∷ []) ≡ Illformed n
-        → from part taken (b ∷ s) ≡ stopsAt ill-formed nothing (atBy st part taken)
-    unfolding walk
-    walk-ill part taken b n s e = rw (room, e)
-
     -- A step of the machine at a place.
     abbrev stepAt : ℕ → ℕ → List ℕ → Step
     stepAt p c own = step names context st p c own
@@ -234,12 +227,6 @@ module _ (names : List Name) (context : Context) (text errors : ℕ) where
         → from part taken (b ∷ s) ≡ next (taken - length part) (suc taken) c (part ++ b ∷ []) s
     unfolding walk
     walk-whole part taken b c n s e calls = rw (room, e, calls)
-
-    -- A character that is not taken.
-    walk-called : (part : List ℕ) (taken b c n : ℕ) (s : List ℕ) → readChar (part ++ b ∷ []) ≡ Char c n → callsFor context c ≢ done
-        → from part taken (b ∷ s) ≡ stopsAt (callsFor context c) (lastOf names context (callsFor context c) st) (atBy st part taken)
-    unfolding walk
-    walk-called part taken b c n s e calls = rw (room, e, ne-eqb (callsFor context c) done calls)
 
     -- The bytes of a character up to b, as a beginning of it.
     begun : (part : List ℕ) (b : ℕ) (s : List ℕ) (r : CharRead) → readChar (part ++ b ∷ s) ≡ r → Beyond (suc (length part)) r
@@ -287,56 +274,3 @@ module _ (names : List Name) (context : Context) (text errors : ℕ) where
             ∙ ap₂ (λ (t k : ℕ). next (taken - length part) t c own (drop k (b ∷ s)))
             (let i : suc taken ≡ taken + (n - length part) = omega arith in i) (let i : 1 ≡ n - length part = omega arith in i)
             ∙ ap (λ (l : List ℕ). next (taken - length part) (taken + (n - length part)) c l (drop (n - length part) (b ∷ s))) (sym is)
-
-    -- Bytes that end inside a character.
-    walk-part : (part : List ℕ) (taken n : ℕ) (s : List ℕ) → readChar (part ++ s) ≡ Incomplete n
-        → from part taken s ≡ stopsAt done nothing (atBy st (part ++ s) (taken + length s))
-    unfolding walk
-    walk-part part taken n [] e =
-        ap₂ (λ (l : List ℕ) (t : ℕ). stopsAt done nothing (atBy st l t)) (sym (append-nil part)) (let i : taken ≡ taken + 0 = omega arith in i)
-    walk-part part taken n (b ∷ s) e =
-        let joins : (part ++ b ∷ []) ++ s ≡ part ++ b ∷ s = append-assoc part (b ∷ []) s in
-        walk-begun part taken b (length (part ++ b ∷ [])) s (begun part b s (Incomplete n) e tt)
-        ∙ walk-part (part ++ b ∷ []) (suc taken) n s (ap readChar joins ∙ e)
-        ∙ ap₂ (λ (l : List ℕ) (t : ℕ). stopsAt done nothing (atBy st l t)) joins
-        (let i : suc taken + length s ≡ taken + suc (length s) = omega arith in i)
-
-    -- An ill-formed byte after n bytes of its character.
-    walk-illformed : (part : List ℕ) (taken n : ℕ) (s : List ℕ) → readChar (part ++ s) ≡ Illformed n → length part ≤ n
-        → from part taken s ≡ stopsAt ill-formed nothing (atBy st (take n (part ++ s)) (taken + (n - length part)))
-    walk-illformed part taken n [] e there = absurd (omega (arith, illformed-length (part ++ []) n e, length-append part []))
-    walk-illformed part taken n (b ∷ s) e there =
-        ⊎-elim (more (walk-illformed (part ++ b ∷ []) (suc taken) n s)) last (below? (length part) n)
-      where
-        own : List ℕ
-        own = part ++ b ∷ []
-
-        long : length own ≡ suc (length part)
-        long = length-append part (b ∷ []) ∙ omega arith
-
-        more : (readChar (own ++ s) ≡ Illformed n → length own ≤ n
-            → from own (suc taken) s ≡ stopsAt ill-formed nothing (atBy st (take n (own ++ s)) (suc taken + (n - length own))))
-            → length part < n
-            → from part taken (b ∷ s) ≡ stopsAt ill-formed nothing (atBy st (take n (part ++ b ∷ s)) (taken + (n - length part)))
-        more later h =
-            let joins : own ++ s ≡ part ++ b ∷ s = append-assoc part (b ∷ []) s in
-            walk-begun part taken b (length own) s (begun part b s (Illformed n) e h)
-            ∙ later (ap readChar joins ∙ e) (omega (arith, long))
-            ∙ ap₂ (λ (l : List ℕ) (t : ℕ). stopsAt ill-formed nothing (atBy st (take n l) t)) joins
-            (let i : suc taken + (n - length own) ≡ taken + (n - length part) = omega (arith, long) in i)
-
-        last : n ≤ length part
-            → from part taken (b ∷ s) ≡ stopsAt ill-formed nothing (atBy st (take n (part ++ b ∷ s)) (taken + (n - length part)))
-        last h =
-            let one : n ≡ length part = omega arith in
-            let is : take (suc n) (part ++ b ∷ s) ++ [] ≡ own = append-nil (take (suc n) (part ++ b ∷ s)) ∙ own-take part b (suc n) s (ap suc one) in
-            walk-ill part taken b n s (ap readChar (sym is) ∙ illformed-never (part ++ b ∷ s) n e [])
-            ∙ ap₂ (λ (l : List ℕ) (t : ℕ). stopsAt ill-formed nothing (atBy st l t)) (sym (take-at part (b ∷ s) n (sym one)))
-            (let i : taken ≡ taken + (n - length part) = omega arith in i)
-
-    -- A character that is not taken: of one byte, where none of its bytes stand before it.
-    walk-stop : (taken c n : ℕ) (s : List ℕ) → readChar s ≡ Char c n → n ≡ 1 → callsFor context c ≢ done
-        → from [] taken s ≡ stopsAt (callsFor context c) (lastOf names context (callsFor context c) st) (atBy st [] taken)
-    walk-stop taken c n [] e one calls = absurd (omega (arith, read-length [] c n e))
-    walk-stop taken c n (b ∷ s) e one calls =
-        walk-called [] taken b c n s (ap readChar (sym (own-take [] b n s one)) ∙ read-take (b ∷ s) c n e) calls

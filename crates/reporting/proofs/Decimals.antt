@@ -34,7 +34,7 @@ decimal-more n h =
     (ap (λ (u : List ℕ). u ++ (digit (n % 10) ∷ [])) (same-digits n (suc (n / 10)) (n / 10) (omega arith) (omega arith)))
 
 -- What holds of one digit, and of a number wherever it holds of its tenth, holds of each number.
-pub decimal-induction {ℓ} : (P : ℕ → List ℕ → Type ℓ) → ((n : ℕ) → n < 10 → P n (digit n ∷ []))
+decimal-induction {ℓ} : (P : ℕ → List ℕ → Type ℓ) → ((n : ℕ) → n < 10 → P n (digit n ∷ []))
     → ((n : ℕ) (u : List ℕ) → 10 ≤ n → P (n / 10) u → P n (u ++ (digit (n % 10) ∷ []))) → (n : ℕ) → P n (decimal n)
 decimal-induction P one more n = within (suc n) n (omega arith)
   where
