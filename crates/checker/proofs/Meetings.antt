@@ -2,7 +2,7 @@
 use Prim.Native.Nat.{ℕ, zero, suc, _+_, _*_, _/_, _≤_, _<_}
 use mathlib.Core.Path.{_≡_, refl, sym, _∙_, ap, subst}
 use mathlib.Core.List.{List, [], _∷_, _++_}
-use mathlib.Core.Bool.{Bool, true, false, _&&_, and-assoc, and-eq-true-iff}
+use mathlib.Core.Bool.{Bool, true, false, _&&_, and-true, and-false, and-assoc, and-eq-true-iff}
 use mathlib.Core.Logic.{_≢_, ⊎-elim}
 use native.Mathlib.Omega.{arith}
 use types.Run.{OneOf, miss}
@@ -57,11 +57,7 @@ module _ {met : Met} {l : List ℕ} (there : met .at ≤ length l) where
   -- Nothing comes.
   pub meets-none : Meets met [] l met
   unfolding stands
-  meets-none = record { right-is = by (met .right); at-is = λ e. omega arith; there = there }
-    where
-      by : (t : Bool) → t ≡ t && true
-      by true = refl
-      by false = refl
+  meets-none = record { right-is = sym (and-true (met .right)); at-is = λ e. omega arith; there = there }
 
   -- What was wrong stays wrong.
   pub meets-over : (values : List ℕ) → met .right ≡ false → Meets met values l met
@@ -69,11 +65,7 @@ module _ {met : Met} {l : List ℕ} (there : met .at ≤ length l) where
 
   -- Something else comes.
   pub meets-miss : (values : List ℕ) → stands values (drop (met .at) l) ≡ false → Meets met values l (met-at false (met .at))
-  meets-miss values e = record { right-is = rw e (by (met .right)); at-is = λ f. no-way (sym f); there = there }
-    where
-      by : (t : Bool) → false ≡ t && false
-      by true = refl
-      by false = refl
+  meets-miss values e = record { right-is = rw e (sym (and-false (met .right))); at-is = λ f. no-way (sym f); there = there }
 
   -- They come.
   pub meets-hit : (values : List ℕ) (at : ℕ) → met .right ≡ true → stands values (drop (met .at) l) ≡ true → at ≡ met .at + length values
@@ -127,11 +119,7 @@ stands-read s c e =
 -- A number is next, or it is not.
 pub stands-number : (l : List ℕ) (at n : ℕ) → at < length l → stands (n ∷ []) (drop at l) ≡ eqb n (getD l at 0)
 unfolding stands
-stands-number l at n h = rw (drop-cons l at 0 h) (by (eqb n (getD l at 0)))
-  where
-    by : (t : Bool) → t && true ≡ t
-    by true = refl
-    by false = refl
+stands-number l at n h = rw (drop-cons l at 0 h) (and-true (eqb n (getD l at 0)))
 
 -- None is next at the end.
 pub stands-nothing : (l : List ℕ) (at n : ℕ) → length l ≤ at → stands (n ∷ []) (drop at l) ≡ false

@@ -3,7 +3,7 @@ use Prim.Native.Nat.{ℕ, _-_}
 use Prim.Native.Char.{code}
 use mathlib.Core.Path.{_≡_, refl, sym, _∙_, ap}
 use mathlib.Core.List.{List, [], _∷_, _++_}
-use mathlib.Core.Bool.{Bool, true, false, _||_, _&&_}
+use mathlib.Core.Bool.{Bool, true, false, _||_, _&&_, and-false}
 use native.Mathlib.Omega.{arith}
 use lib.Dec.{eqb}
 use lib.ListN.{length, drop, length-append}
@@ -68,11 +68,7 @@ stands-past : (h : List ℕ) (x : ℕ) (t word : List ℕ) → tidyRest word ≡
 unfolding stands tidyRest
 stands-past [] x t [] e al = refl
 stands-past (y ∷ h) x t [] e al = refl
-stands-past [] x t (a ∷ []) e al = go (eqb (code ";") a)
-  where
-    go : (u : Bool) → u && false ≡ false
-    go true = refl
-    go false = refl
+stands-past [] x t (a ∷ []) e al = and-false (eqb (code ";") a)
 stands-past [] x t (a ∷ y ∷ word) e al = go (eqb (code ";") a) refl
   where
     go : (u : Bool) → eqb (code ";") a ≡ u → u && stands (x ∷ t) (y ∷ word) ≡ false
@@ -90,11 +86,6 @@ no-semicolon : (s : List ℕ) → Alphanumerics s → next (code ";") s ≡ fals
 no-semicolon [] al = refl
 no-semicolon (c ∷ s) al = apart alphanumeric c (code ";") (al .0) refl
 
--- The second of two tests fails.
-and-fails : (t u : Bool) → u ≡ false → t && u ≡ false
-and-fails true u e = e
-and-fails false u e = refl
-
 module _ (names : List Name) where
   -- What begins no name is not held.
   pub unheld-name : (s : List ℕ) → begins names s ≡ false → heldName names s ≡ false
@@ -105,8 +96,8 @@ module _ (names : List Name) where
   held-letters h al e =
       rw (
         e,
-        and-fails (eqb (longest names h .len) (length h)) (next (code ";") (drop (length h - 1) h))
-            (no-semicolon (drop (length h - 1) h) (all-drop (λ (c : ℕ). alphanumeric c ≡ true) (length h - 1) h al)),
+        no-semicolon (drop (length h - 1) h) (all-drop (λ (c : ℕ). alphanumeric c ≡ true) (length h - 1) h al),
+        and-false (eqb (longest names h .len) (length h)),
       )
 
   -- A name with its `;` is not held, nor is anything after it.

@@ -1,12 +1,12 @@
 -- Calls one after the other: what an open stream's record stands for, and what a call makes of it.
 use Prim.Native.Nat.{ℕ, _+_, _-_, _≤_, _<_}
 use mathlib.Core.Path.{_≡_, refl, sym, _∙_, ap, ap₂, subst}
-use mathlib.Core.List.{List, [], _∷_, _++_}
+use mathlib.Core.List.{List, [], _++_}
 use mathlib.Core.Bool.{Bool, true, false, _||_}
 use mathlib.Core.Logic.{_≢_, _⊎_, inl, inr}
 use native.Mathlib.Omega.{arith}
 use lib.Dec.{eqb}
-use lib.ListN.{length, take, length-append, length-take}
+use lib.ListN.{length, take, length-append, length-take, drop-of-length-le}
 use Rattle.lists.specs.Notation.{if_then_else_}
 use Rattle.lists.proofs.Choice.{if-both, no-way}
 use Rattle.standard.specs.declared.Context.{Context}
@@ -286,11 +286,7 @@ module _ {context : Context} {r : Stream} {t : List ℕ} {g : Reading} (s : Stan
       (λ o room h. subst P
       (λ i. outcome done 0 0 (finish builtin (sym standing-context i) (sym standing-at i .st)) (closedBy (sym standing-context i)
       (sym standing-taken i)))
-      (whole (none (s .here .part) (omega (arith, count-is)))))
+      (whole (drop-of-length-le (s .here .part) {i = 0} (omega (arith, count-is)))))
     where
       count-is : r .«part_count» ≡ length (s .here .part)
       count-is = ap (λ (x : Stream). x .«part_count») (s .recorded)
-
-      none : (l : List ℕ) → length l ≤ 0 → l ≡ []
-      none [] h = refl
-      none (x ∷ l) h = absurd (omega arith)

@@ -7,7 +7,7 @@ use mathlib.Core.Logic.{_⊎_, inl, inr, ⊎-elim}
 use mathlib.Core.Bool.{Bool, true, false, not}
 use native.Mathlib.Omega.{arith}
 use lib.Dec.{ltb, leb, eqb}
-use lib.ListN.{length, drop, length-append}
+use lib.ListN.{length, drop, length-append, drop-of-length-le}
 use lib.Seq.{drop-append-seam}
 use borrow.Author.Tests.{lt-ltb, le-ltb, ltb-true, leb-true, eq-eqb, eqb-true}
 use Rattle.lists.specs.Notation.{nextIs}
@@ -23,11 +23,6 @@ use Rattle.decoder.specs.Held.{closedName, heldName}
 use Rattle.decoder.specs.Turns.{asciiOf}
 use Rattle.decoder.proofs.Looks.{AsciiOnly, alphanumeric-ascii, equal-ascii, own-byte}
 use Rattle.decoder.proofs.Tidy.{tidyRest, builtin-tidy, Alphanumerics, begins-some, tidy-name, goes-on, closed-length}
-
--- A list of no elements is empty.
-empty : (l : List ℕ) → length l ≤ 0 → l ≡ []
-empty [] e = refl
-empty (a ∷ l) e = absurd (omega arith)
 
 -- Letters and digits; or those and then `;`.
 abbrev Sides : List ℕ → Type 0
@@ -48,7 +43,7 @@ open-word (a ∷ word) (x ∷ h) t e =
     go false f same i later =
         let w = and-true (eqb a (code ";")) (eqb (length word) 0) (rw f at t) in
         let none = eqb-true (length word) 0 (w .1) in
-        let end = empty h (omega (arith, stands-fits h word i, none)) in
+        let end : h ≡ [] = drop-of-length-le h {i = 0} (omega (arith, stands-fits h word i, none)) in
         inr ([], tt, λ j. (same ∙ eqb-true a (code ";") (w .0)) j ∷ end j)
 
 -- The last element of a list.

@@ -3,7 +3,7 @@ use Prim.Native.Nat.{ℕ, _≤_, _<_}
 use Prim.Native.Char.{code}
 use mathlib.Core.Path.{_≡_, refl}
 use mathlib.Core.List.{List, []}
-use mathlib.Core.Bool.{Bool, true, false, _&&_}
+use mathlib.Core.Bool.{true, false, and-false}
 use lib.Dec.{leb}
 use lib.ListN.{length, drop}
 use borrow.Author.Tests.{lt-ltb, le-ltb, le-leb, lt-leb}
@@ -44,11 +44,6 @@ pub source-short : {out errors out′ errors′ : List ℕ} {r : ℕ} (context :
     → Fills (sourceReport context s) (sourceErrors context s) out errors r out′ errors′ → SourceFills context s out errors r out′ errors′
 source-short context s h f = rw (le-ltb longest-source (length s) h) f
 
--- Two tests of which the second fails fail together.
-second-fails : (t : Bool) → t && false ≡ false
-second-fails true = refl
-second-fails false = refl
-
 module _ {input out errors : List ℕ} where
   -- Into rooms that are too small nothing is written.
   nothing-written : roomy (length out) (length errors) ≡ false → Reports input out errors 0 out errors
@@ -59,7 +54,7 @@ module _ {input out errors : List ℕ} where
   small-out h = nothing-written (rw (lt-leb report-room (length out) h))
 
   pub small-errors : length errors < numbers-room → Reports input out errors 0 out errors
-  small-errors h = nothing-written (rw (lt-leb numbers-room (length errors) h) (second-fails (leb report-room (length out))))
+  small-errors h = nothing-written (rw (lt-leb numbers-room (length errors) h) (and-false (leb report-room (length out))))
 
   module _ {r : ℕ} {out′ errors′ : List ℕ} (rooms : Roomy out errors) where
     -- Else what is called for.

@@ -2,7 +2,7 @@
 use Prim.Native.Nat.{ℕ, _≤_, _<_}
 use mathlib.Core.Path.{_≡_, refl, sym, _∙_}
 use mathlib.Core.List.{List, [], _∷_}
-use mathlib.Core.Bool.{Bool, true, false, _&&_}
+use mathlib.Core.Bool.{Bool, true, false, and-false}
 use native.Mathlib.Omega.{arith}
 use lib.Dec.{eqb}
 use lib.ListN.{length, getD}
@@ -24,11 +24,7 @@ line-feed b false e = rw (ne-eqb 10 b (λ k. eqb-false b 10 e (sym k)))
 pub short-start : (letter : ℕ) (s : List ℕ) → length s < 2 → Starts letter s ≡ false
 unfolding stands
 short-start letter [] h = refl
-short-start letter (a ∷ []) h = go (eqb letter a)
-  where
-    go : (t : Bool) → (t && false) ≡ false
-    go true = refl
-    go false = refl
+short-start letter (a ∷ []) h = and-false (eqb letter a)
 short-start letter (a ∷ b ∷ s) h = absurd (omega arith)
 
 -- So one that starts so has two bytes.
