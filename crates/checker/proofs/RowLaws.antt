@@ -16,9 +16,10 @@ use Rattle.standard.specs.Reading.{piecesFrom, pieces, Reading, joined}
 use Rattle.standard.proofs.Bounds.{pieces-unfold, pieces-induction}
 use Rattle.standard.proofs.PieceSize.{piece-size}
 use Rattle.standard.proofs.Joining.{numbers-length}
+use Rattle.checker.specs.declared.meeting.Met.{Met}
 use Rattle.checker.specs.declared.rows.Joint.{Joint}
 use Rattle.checker.specs.declared.rows.Judged.{Judged}
-use Rattle.checker.specs.Transcript.{row, Left, left, total, reached, right, wrong}
+use Rattle.checker.specs.Transcript.{row, left, total, reached, right, wrong}
 use Rattle.checker.specs.Runs.{PlainRow}
 use Rattle.checker.specs.Meeting.{so-far, Joins, ByteRow, leftAt, Judges}
 use Rattle.checker.proofs.Walking.{Walking, walk-byte-row, walk-run, walked}
@@ -64,203 +65,180 @@ reached-rest names context s n e =
 abbrev rightTo : Joint → Judged
 rightTo j = record { reason = right; at = j .at; text = j .text .at; errors = j .errors .at }
 
--- A row of n source bytes, m text bytes and k errors, from the places at, t and e on.
-module _ (names : List Name) (context : Context) (s : List ℕ) (at : ℕ) (text : List ℕ) (t : ℕ) (errors : List ℕ) (e : ℕ) (n m k : ℕ) where
-  abbrev here : Left
-  here = leftAt names context s at text t errors e
+-- What the pieces give that n source bytes reach into from at on.
+abbrev given : List Name → Context → (source : List ℕ) (at n : ℕ) → Reading
+given names context s at n = joined at (reached n (pieces names context (drop at s)))
 
-  abbrev ps : List Piece
-  ps = pieces names context (drop at s)
+-- A row that has bytes, and not more than are left, passes a.
+passes-a : (names : List Name) (context : Context) (s : List ℕ) (at n : ℕ) → n ≢ 0 → n ≤ length s - at
+    → eqb n 0 || ltb (total (pieces names context (drop at s))) n ≡ false
+passes-a names context s at n some fits =
+    rw (ne-eqb n 0 some, pieces-total names context (drop at s), length-drop at s) (le-ltb (length s - at) n fits)
 
-  abbrev given : Reading
-  given = joined at (reached n ps)
+-- What was met of the bytes from at to at + n is what was met of n bytes.
+met : {ps : List Piece} {at : ℕ} (n : ℕ) {text errors : List ℕ} {t e : Met} {joint : Joint} → Joins ps at (at + n - at) text t errors e joint
+    → Joins ps at n text t errors e joint
+met {at = at} n joins = let same : at + n - at ≡ n = omega arith in rw same at joins
+
+-- Where the pieces end with the row they have its bytes.
+bytes : {ps : List Piece} {at n : ℕ} {text errors : List ℕ} {t e : Met} {joint : Joint} → Joins ps at n text t errors e joint → joint .at ≡ at + n
+    → total (reached n ps) ≡ n
+bytes j ends = omega (arith, j .at-is, ends)
+
+-- Where their text comes, and is as long as the row says, the row passes c.
+passes-c : {ps : List Piece} {at n : ℕ} {text errors : List ℕ} {e : Met} {joint : Joint} (t m : ℕ) → Joins ps at n text (so-far t) errors e joint
+    → joint .text .right ≡ true → joint .text .at - t ≡ m
+    → eqb (length (joined at (reached n ps) .text)) m && stands (joined at (reached n ps) .text) (drop t text) ≡ true
+passes-c {ps} {at} {n} t m j sound count =
+    rw (eq-eqb (length (joined at (reached n ps) .text)) m (omega (arith, j .text-met .at-is sound)), sym (j .text-met .right-is) ∙ sound) refl
+
+-- Where their errors come these end after two numbers each.
+errors-end : {ps : List Piece} {at n : ℕ} {text errors : List ℕ} {t : Met} {joint : Joint} (e : ℕ) → Joins ps at n text t errors (so-far e) joint
+    → joint .errors .right ≡ true → joint .errors .at ≡ e + 2 * length (joined at (reached n ps) .errors)
+errors-end {ps} {at} {n} e j sound = omega (arith, j .errors-met .at-is sound, numbers-length (joined at (reached n ps) .errors))
+
+-- Before the first piece of a row of n source bytes.
+start : (names : List Name) (context : Context) (s : List ℕ) (at : ℕ) (text : List ℕ) (t : ℕ) (errors : List ℕ) (e n : ℕ) → at ≤ length s
+    → t ≤ length text → e ≤ length errors
+    → Walking names context s (at + n) text errors
+    (Joins (pieces names context (drop at s)) at (at + n - at) text (so-far t) errors (so-far e)) at (so-far t) (so-far e)
+start names context s at text t errors e n there text-there errors-there =
+    record { there = there; text-there = text-there; errors-there = errors-there; rest = λ r j. j }
+
+-- A row of n source bytes, m text bytes and k errors, judged from the places at, t and e on: it is wrong for a reason, or right.
+module _ {names : List Name} {context : Context} {s : List ℕ} {at : ℕ} {text : List ℕ} {t : ℕ} {errors : List ℕ} {e n m k : ℕ} where
+  wrong-for : (reason : ℕ) {r : Judged} → r .reason ≡ reason → 0 < reason → reason ≡ wrong (leftAt names context s at text t errors e) (row n m k)
+      → Judges names context s at text t errors e (row n m k) r
+  wrong-for reason is some why = record { reason-is = is ∙ why; leaves = λ z. absurd (omega arith); there = λ z. absurd (omega arith) }
 
   -- It has no source bytes.
-  row-empty : n ≡ 0 → 1 ≡ wrong here (row n m k)
+  pub judged-empty : {r : Judged} → n ≡ 0 → r .reason ≡ 1 → Judges names context s at text t errors e (row n m k) r
   unfolding wrong
-  row-empty none = rw (eq-eqb n 0 none)
+  judged-empty none is = wrong-for 1 is (omega arith) (rw (eq-eqb n 0 none))
 
   module _ (some : n ≢ 0) where
     -- It goes past the covered part.
-    row-past : length s - at < n → 1 ≡ wrong here (row n m k)
-    unfolding wrong
-    row-past h =
-        rw (ne-eqb n 0 some, pieces-total names context (drop at s), length-drop at s, lt-ltb (length s - at) n h)
-
-    module _ (fits : n ≤ length s - at) {joint : Joint} (joins : Joins ps at (at + n - at) text (so-far t) errors (so-far e) joint) where
-      met : Joins ps at n text (so-far t) errors (so-far e) joint
-      met = let same : at + n - at ≡ n = omega arith in rw same at joins
-
-      passes-a : eqb n 0 || ltb (total ps) n ≡ false
-      passes-a = rw (ne-eqb n 0 some, pieces-total names context (drop at s), length-drop at s) (le-ltb (length s - at) n fits)
-
-      -- It ends inside a piece.
-      row-inside : joint .at ≢ at + n → 2 ≡ wrong here (row n m k)
-      unfolding wrong
-      row-inside other = rw (passes-a, ne-eqb (total (reached n ps)) n (λ z. other (omega (arith, met .at-is, z))))
-
-      module _ (ends : joint .at ≡ at + n) where
-        bytes : total (reached n ps) ≡ n
-        bytes = omega (arith, met .at-is)
-
-        -- Its text is another.
-        row-text : joint .text .right ≡ false → 3 ≡ wrong here (row n m k)
-        unfolding wrong
-        row-text f =
-            rw (passes-a, eq-eqb (total (reached n ps)) n bytes, sym (met .text-met .right-is) ∙ f, and-false (eqb (length (given .text)) m))
-
-        module _ (text-right : joint .text .right ≡ true) where
-          text-end : joint .text .at ≡ t + length (given .text)
-          text-end = met .text-met .at-is text-right
-
-          -- It has another length.
-          row-text-count : joint .text .at - t ≢ m → 3 ≡ wrong here (row n m k)
-          unfolding wrong
-          row-text-count other =
-              rw (passes-a, eq-eqb (total (reached n ps)) n bytes, ne-eqb (length (given .text)) m (λ z. other (omega (arith, text-end, z))))
-
-          module _ (count : joint .text .at - t ≡ m) where
-            passes-c : eqb (length (given .text)) m && stands (given .text) (drop t text) ≡ true
-            passes-c = rw (eq-eqb (length (given .text)) m (omega (arith, text-end)), sym (met .text-met .right-is) ∙ text-right) refl
-
-            -- Its errors are others.
-            row-errors : joint .errors .right ≡ false → 4 ≡ wrong here (row n m k)
-            unfolding wrong
-            row-errors f =
-                rw (
-                  passes-a,
-                  eq-eqb (total (reached n ps)) n bytes,
-                  passes-c,
-                  sym (met .errors-met .right-is) ∙ f,
-                  and-false (eqb (length (given .errors)) k),
-                )
-
-            module _ (errors-right : joint .errors .right ≡ true) where
-              errors-end : joint .errors .at ≡ e + 2 * length (given .errors)
-              errors-end = omega (arith, met .errors-met .at-is errors-right, numbers-length (given .errors))
-
-              -- They are more or fewer.
-              row-errors-count : joint .errors .at - e ≢ 2 * k → 4 ≡ wrong here (row n m k)
-              unfolding wrong
-              row-errors-count other =
-                  rw (
-                    passes-a,
-                    eq-eqb (total (reached n ps)) n bytes,
-                    passes-c,
-                    ne-eqb (length (given .errors)) k (λ z. other (omega (arith, errors-end, z))),
-                  )
-
-              -- All is right.
-              module _ (numbers-count : joint .errors .at - e ≡ 2 * k) where
-                right-row : right ≡ wrong here (row n m k)
-                unfolding wrong
-                right-row =
-                    rw (
-                      passes-a,
-                      eq-eqb (total (reached n ps)) n bytes,
-                      passes-c,
-                      eq-eqb (length (given .errors)) k (omega (arith, errors-end)),
-                      sym (met .errors-met .right-is) ∙ errors-right,
-                    )
-
-                left-pieces : drop (length (reached n ps)) ps ≡ pieces names context (drop (joint .at) s)
-                left-pieces = reached-rest names context (drop at s) n bytes ∙ rw (drop-drop n at s, ends)
-
-                left-text : drop m (drop t text) ≡ drop (joint .text .at) text
-                left-text =
-                    let end : t + m ≡ joint .text .at = omega (arith, text-end) in drop-drop m t text ∙ ap (λ (i : ℕ). drop i text) end
-
-                left-errors : drop (2 * k) (drop e errors) ≡ drop (joint .errors .at) errors
-                left-errors =
-                    let end : e + 2 * k ≡ joint .errors .at = omega (arith, errors-end) in
-                    drop-drop (2 * k) e errors ∙ ap (λ (i : ℕ). drop i errors) end
-
-                row-right : at ≤ length s → Judges names context s at text t errors e (row n m k) (rightTo joint)
-                row-right h = record {
-                  reason-is = right-row;
-                  leaves = λ z i. left (sym ends i) (left-pieces i) (left-text i) (left-errors i);
-                  there = λ z. (omega arith, omega arith, met .text-met .there, met .errors-met .there);
-                }
-
-  -- Before its first piece.
-  start : at ≤ length s → t ≤ length text → e ≤ length errors
-      → Walking names context s (at + n) text errors (Joins ps at (at + n - at) text (so-far t) errors (so-far e)) at (so-far t) (so-far e)
-  start there text-there errors-there = record { there = there; text-there = text-there; errors-there = errors-there; rest = λ r j. j }
-
-  -- A row of bytes that the text has too.
-  row-plain : n ≢ 0 → n ≤ length s - at → at ≤ length s → e ≤ length errors → PlainRow s at n text t m k
-      → Judges names context s at text t errors e (row n m k) (record { reason = right; at = at + n; text = t + n; errors = e })
-  row-plain some fits there errors-there p =
-      let before = start there (omega (arith, p .there)) errors-there in
-      let joins = walked (walk-run before n (omega arith) (omega arith) (p .there) (p .same)) (omega arith) in
-      row-right some fits joins refl refl (omega (arith, p .bytes)) refl (omega (arith, p .no-errors)) there
-
-  -- A row of one byte that stands for itself.
-  row-byte : n ≢ 0 → n ≤ length s - at → at ≤ length s → e ≤ length errors → ByteRow s at n text t m errors e k
-      → Judges names context s at text t errors e (row n m k) (record { reason = right; at = at + 1; text = t + 1; errors = e + 2 * k })
-  row-byte some fits there errors-there p =
-      let before = start there (omega (arith, p .there)) errors-there in
-      let joins = walked (walk-byte-row before (omega arith) p) (omega (arith, p .source-byte)) in
-      row-right some fits joins (omega (arith, p .source-byte)) refl (omega (arith, p .text-byte)) refl (omega arith) there
-
-  -- A wrong row.
-  row-wrong : {reason : ℕ} {r : Judged} → r .reason ≡ reason → 0 < reason → reason ≡ wrong here (row n m k)
-      → Judges names context s at text t errors e (row n m k) r
-  row-wrong is h e = record { reason-is = is ∙ e; leaves = λ z. absurd (omega arith); there = λ z. absurd (omega arith) }
-
--- The same of a row that was judged: it is wrong for a reason, or right.
-module _ {names : List Name} {context : Context} {s : List ℕ} {at : ℕ} {text : List ℕ} {t : ℕ} {errors : List ℕ} {e n m k : ℕ} where
-  pub judged-empty : {r : Judged} → n ≡ 0 → r .reason ≡ 1 → Judges names context s at text t errors e (row n m k) r
-  judged-empty none is =
-      row-wrong names context s at text t errors e n m k is (omega arith)
-      (row-empty names context s at text t errors e n m k none)
-
-  module _ (some : n ≢ 0) where
     pub judged-past : {r : Judged} → length s - at < n → r .reason ≡ 1 → Judges names context s at text t errors e (row n m k) r
+    unfolding wrong
     judged-past h is =
-        row-wrong names context s at text t errors e n m k is (omega arith)
-        (row-past names context s at text t errors e n m k some h)
-
-    pub judged-plain : n ≤ length s - at → at ≤ length s → e ≤ length errors → PlainRow s at n text t m k
-        → Judges names context s at text t errors e (row n m k) (record { reason = right; at = at + n; text = t + n; errors = e })
-    judged-plain = row-plain names context s at text t errors e n m k some
-
-    pub judged-byte : n ≤ length s - at → at ≤ length s → e ≤ length errors → ByteRow s at n text t m errors e k
-        → Judges names context s at text t errors e (row n m k) (record { reason = right; at = at + 1; text = t + 1; errors = e + 2 * k })
-    judged-byte = row-byte names context s at text t errors e n m k some
+        wrong-for 1 is (omega arith)
+        (rw (ne-eqb n 0 some, pieces-total names context (drop at s), length-drop at s, lt-ltb (length s - at) n h))
 
     module _ (fits : n ≤ length s - at) {joint : Joint}
         (joins : Joins (pieces names context (drop at s)) at (at + n - at) text (so-far t) errors (so-far e) joint) where
+      -- It ends inside a piece.
       pub judged-inside : {r : Judged} → joint .at ≢ at + n → r .reason ≡ 2 → Judges names context s at text t errors e (row n m k) r
+      unfolding wrong
       judged-inside other is =
-          row-wrong names context s at text t errors e n m k is (omega arith)
-          (row-inside names context s at text t errors e n m k some fits joins other)
+          wrong-for 2 is (omega arith)
+          (rw (
+            passes-a names context s at n some fits,
+            ne-eqb (total (reached n (pieces names context (drop at s)))) n
+                (λ z. other (omega (arith, met n joins .at-is, z))),
+          ))
 
       module _ (ends : joint .at ≡ at + n) where
+        -- Its text is another.
         pub judged-text : {r : Judged} → joint .text .right ≡ false → r .reason ≡ 3 → Judges names context s at text t errors e (row n m k) r
+        unfolding wrong
         judged-text f is =
-            row-wrong names context s at text t errors e n m k is (omega arith)
-            (row-text names context s at text t errors e n m k some fits joins ends f)
+            let j = met n joins in
+            wrong-for 3 is (omega arith)
+            (rw (
+              passes-a names context s at n some fits,
+              eq-eqb (total (reached n (pieces names context (drop at s)))) n (bytes j ends),
+              sym (j .text-met .right-is) ∙ f,
+              and-false (eqb (length (given names context s at n .text)) m),
+            ))
 
         module _ (texts : joint .text .right ≡ true) where
+          -- It has another length.
           pub judged-text-count : {r : Judged} → joint .text .at - t ≢ m → r .reason ≡ 3 → Judges names context s at text t errors e (row n m k) r
+          unfolding wrong
           judged-text-count other is =
-              row-wrong names context s at text t errors e n m k is (omega arith)
-              (row-text-count names context s at text t errors e n m k some fits joins ends texts other)
+              let j = met n joins in
+              wrong-for 3 is (omega arith)
+              (rw (
+                passes-a names context s at n some fits,
+                eq-eqb (total (reached n (pieces names context (drop at s)))) n (bytes j ends),
+                ne-eqb (length (given names context s at n .text)) m (λ z. other (omega (arith, j .text-met .at-is texts, z))),
+              ))
 
           module _ (count : joint .text .at - t ≡ m) where
+            -- Its errors are others.
             pub judged-errors : {r : Judged} → joint .errors .right ≡ false → r .reason ≡ 4 → Judges names context s at text t errors e (row n m k) r
+            unfolding wrong
             judged-errors f is =
-                row-wrong names context s at text t errors e n m k is (omega arith)
-                (row-errors names context s at text t errors e n m k some fits joins ends texts count f)
+                let j = met n joins in
+                wrong-for 4 is (omega arith)
+                (rw (
+                  passes-a names context s at n some fits,
+                  eq-eqb (total (reached n (pieces names context (drop at s)))) n (bytes j ends),
+                  passes-c t m j texts count,
+                  sym (j .errors-met .right-is) ∙ f,
+                  and-false (eqb (length (given names context s at n .errors)) k),
+                ))
 
             module _ (sound : joint .errors .right ≡ true) where
+              -- They are more or fewer.
               pub judged-errors-count : {r : Judged} → joint .errors .at - e ≢ 2 * k → r .reason ≡ 4
                   → Judges names context s at text t errors e (row n m k) r
+              unfolding wrong
               judged-errors-count other is =
-                  row-wrong names context s at text t errors e n m k is (omega arith)
-                  (row-errors-count names context s at text t errors e n m k some fits joins ends texts count sound other)
+                  let j = met n joins in
+                  wrong-for 4 is (omega arith)
+                  (rw (
+                    passes-a names context s at n some fits,
+                    eq-eqb (total (reached n (pieces names context (drop at s)))) n (bytes j ends),
+                    passes-c t m j texts count,
+                    ne-eqb (length (given names context s at n .errors)) k (λ z. other (omega (arith, errors-end e j sound, z))),
+                  ))
 
+              -- All is right.
               pub judged-right : joint .errors .at - e ≡ 2 * k → at ≤ length s
                   → Judges names context s at text t errors e (row n m k) (rightTo joint)
-              judged-right = row-right names context s at text t errors e n m k some fits joins ends texts count sound
+              unfolding wrong
+              judged-right numbers-count there =
+                  let j = met n joins in
+                  record {
+                    reason-is =
+                        rw (
+                          passes-a names context s at n some fits,
+                          eq-eqb (total (reached n (pieces names context (drop at s)))) n (bytes j ends),
+                          passes-c t m j texts count,
+                          eq-eqb (length (given names context s at n .errors)) k (omega (arith, errors-end e j sound)),
+                          sym (j .errors-met .right-is) ∙ sound,
+                        );
+                    leaves = λ z i. left (sym ends i) (left-pieces i) (left-text i) (left-errors i);
+                    there = λ z. (omega arith, omega arith, j .text-met .there, j .errors-met .there);
+                  }
+                where
+                  left-pieces : drop (length (reached n (pieces names context (drop at s)))) (pieces names context (drop at s))
+                      ≡ pieces names context (drop (joint .at) s)
+                  left-pieces = reached-rest names context (drop at s) n (bytes (met n joins) ends) ∙ rw (drop-drop n at s, ends)
+
+                  left-text : drop m (drop t text) ≡ drop (joint .text .at) text
+                  left-text =
+                      let end : t + m ≡ joint .text .at = omega (arith, met n joins .text-met .at-is texts) in
+                      drop-drop m t text ∙ ap (λ (i : ℕ). drop i text) end
+
+                  left-errors : drop (2 * k) (drop e errors) ≡ drop (joint .errors .at) errors
+                  left-errors =
+                      let end : e + 2 * k ≡ joint .errors .at = omega (arith, errors-end e (met n joins) sound) in
+                      drop-drop (2 * k) e errors ∙ ap (λ (i : ℕ). drop i errors) end
+
+  -- It is of bytes that the text has too.
+  pub judged-plain : n ≢ 0 → n ≤ length s - at → at ≤ length s → e ≤ length errors → PlainRow s at n text t m k
+      → Judges names context s at text t errors e (row n m k) (record { reason = right; at = at + n; text = t + n; errors = e })
+  judged-plain some fits there errors-there p =
+      let before = start names context s at text t errors e n there (omega (arith, p .there)) errors-there in
+      let joins = walked (walk-run before n (omega arith) (omega arith) (p .there) (p .same)) (omega arith) in
+      judged-right some fits joins refl refl (omega (arith, p .bytes)) refl (omega (arith, p .no-errors)) there
+
+  -- It is one byte that stands for itself.
+  pub judged-byte : n ≢ 0 → n ≤ length s - at → at ≤ length s → e ≤ length errors → ByteRow s at n text t m errors e k
+      → Judges names context s at text t errors e (row n m k) (record { reason = right; at = at + 1; text = t + 1; errors = e + 2 * k })
+  judged-byte some fits there errors-there p =
+      let before = start names context s at text t errors e n there (omega (arith, p .there)) errors-there in
+      let joins = walked (walk-byte-row before (omega arith) p) (omega (arith, p .source-byte)) in
+      judged-right some fits joins (omega (arith, p .source-byte)) refl (omega (arith, p .text-byte)) refl (omega arith) there
