@@ -3,13 +3,13 @@ use Prim.Native.Nat.{ℕ, _+_, _-_, _/_, _≤_, _<_}
 use mathlib.Core.Path.{_≡_, refl, sym, _∙_, ap, subst}
 use mathlib.Core.List.{List}
 use mathlib.Core.Bool.{Bool, true, false, not}
-use mathlib.Core.Logic.{_⊎_}
+use mathlib.Core.Logic.{_≢_, _⊎_}
 use native.Mathlib.Omega.{arith}
 use lib.Dec.{ltb, leb}
 use lib.ListN.{length, take, length-take}
 use borrow.Author.Tests.{leb-true, lt-ltb, le-ltb, ltb-true, ltb-false, not-true, not-false}
 use Rattle.lists.specs.Notation.{if_then_else_}
-use Rattle.lists.proofs.Choice.{if-both, and-true}
+use Rattle.lists.proofs.Choice.{if-both, no-way, and-true}
 use Rattle.standard.specs.declared.Context.{Context}
 use Rattle.standard.specs.Answers.{done, ill-formed, too-long, stream-too-long, no-room, closed}
 use Rattle.standard.specs.Errors.{numbers}
@@ -48,9 +48,9 @@ use Rattle.decoder.specs.Stream.{
   Feeds,
 }
 use Rattle.decoder.specs.Turns.{Fit}
-use Rattle.decoder.specs.Feeding.{OpenAt, Open, Walks}
+use Rattle.decoder.specs.Feeding.{refusalOf, OpenAt, Open, Walks}
 use Rattle.decoder.proofs.Open.{open-fits, held-back, fit-of, at-back}
-use Rattle.decoder.proofs.Room.{lacks-so, room-so}
+use Rattle.decoder.proofs.Room.{lacks-so, room-so, room-only}
 use Rattle.decoder.proofs.Taking.{open-record}
 
 -- What a record says that is open.
@@ -145,6 +145,74 @@ module _ (r : Stream) (t e : ℕ) where
           unfolding feedOf
           feed-walks h i =
               rw (o, le-ltb 65536 (length chunk) short, le-ltb 16777216 (r .taken + length chunk) fits, room-so t e (h, i))
+
+-- What is so where a chunk of k bytes is not refused.
+pub record Accepted (r : Stream) (k t e : ℕ) : Type 0 where
+  pub is-open : isOpen builtin r ≡ true
+  pub short : k ≤ 65536
+  pub within : r .taken + k ≤ 16777216
+  pub text-room : 64 ≤ t
+  pub errors-room : 8 ≤ e
+
+-- An answer to a chunk of k bytes before any of them is read, 0 where it is not refused.
+module _ (r : Stream) (k t e : ℕ) {o : Bool} {a : ℕ} (is : o ≡ isOpen builtin r) (answers : a ≡ refusalOf o (r .taken) k t e) where
+  answer-is : a ≡ refusalOf (isOpen builtin r) (r .taken) k t e
+  answer-is = answers ∙ ap (λ (x : Bool). refusalOf x (r .taken) k t e) is
+
+  pub accepted : a ≡ done → Accepted r k t e
+  unfolding refusalOf
+  accepted none =
+      let f = by (isOpen builtin r) (ltb 65536 k) (ltb 16777216 (r .taken + k)) (lacksRoom t e) (sym answer-is ∙ none) in
+      let room = room-only t e (f .3) in
+      record {
+        is-open = f .0;
+        short = ltb-false 65536 k (f .1);
+        within = ltb-false 16777216 (r .taken + k) (f .2);
+        text-room = room .0;
+        errors-room = room .1;
+      }
+    where
+      by : (o l m x : Bool)
+          → (if not o then closed else if l then too-long else if m then stream-too-long else if x then no-room else done) ≡ done
+          → (o ≡ true) × (l ≡ false) × (m ≡ false) × (x ≡ false)
+      by false l m x h = absurd (omega arith)
+      by true true m x h = absurd (omega arith)
+      by true false true x h = absurd (omega arith)
+      by true false false true h = absurd (omega arith)
+      by true false false false h = (refl, refl, refl, refl)
+
+  -- A chunk that is refused.
+  pub feed-refused : (chunk : List ℕ) → length chunk ≡ k → a ≢ done → feedOf builtin r chunk t e ≡ refuses a r
+  unfolding feedOf refusalOf
+  feed-refused chunk long =
+      rw long (by (isOpen builtin r) (ltb 65536 k) (ltb 16777216 (r .taken + k)) (lacksRoom t e) _ answer-is)
+    where
+      by : (o l m x : Bool) (walks : Outcome)
+          → a ≡ (if not o then closed else if l then too-long else if m then stream-too-long else if x then no-room else done) → a ≢ done
+          → (if not o then refuses closed r else if l then refuses too-long r else if m then refuses stream-too-long r
+          else if x then refuses no-room r else walks)
+          ≡ refuses a r
+      by false l m x walks is some = ap (λ (n : ℕ). refuses n r) (sym is)
+      by true true m x walks is some = ap (λ (n : ℕ). refuses n r) (sym is)
+      by true false true x walks is some = ap (λ (n : ℕ). refuses n r) (sym is)
+      by true false false true walks is some = ap (λ (n : ℕ). refuses n r) (sym is)
+      by true false false false walks is some = absurd (some is)
+
+  -- An end that is refused, as a chunk of no bytes is.
+  pub end-refused : k ≡ 0 → a ≢ done → endOf builtin r t e ≡ refuses a r
+  unfolding endOf refusalOf
+  end-refused zero =
+      by (isOpen builtin r) (ltb 65536 k) (ltb 16777216 (r .taken + k)) (lacksRoom t e) _ (le-ltb 65536 k (omega arith))
+      (λ o. le-ltb 16777216 (r .taken + k) (omega (arith, opened r o .long))) answer-is
+    where
+      by : (o l m x : Bool) (ends : Outcome) → l ≡ false → (o ≡ true → m ≡ false)
+          → a ≡ (if not o then closed else if l then too-long else if m then stream-too-long else if x then no-room else done) → a ≢ done
+          → (if not o then refuses closed r else if x then refuses no-room r else ends) ≡ refuses a r
+      by false l m x ends short within is some = ap (λ (n : ℕ). refuses n r) (sym is)
+      by true true m x ends short within is some = no-way short
+      by true false true x ends short within is some = no-way (within refl)
+      by true false false true ends short within is some = ap (λ (n : ℕ). refuses n r) (sym is)
+      by true false false false ends short within is some = absurd (some is)
 
 -- What holds of each of its returns holds of what a call comes to.
 module _ (P : Outcome → Type 0) (r : Stream) (t e : ℕ) where

@@ -3,13 +3,13 @@ use Prim.Native.Nat.{ℕ, zero, suc, _+_, _-_, _*_, _≤_, _<_, min}
 use Prim.Native.Char.{code}
 use mathlib.Core.Path.{_≡_, refl, sym, _∙_, ap, ap₂, subst}
 use mathlib.Core.List.{List, [], _∷_, _++_}
-use mathlib.Core.Bool.{Bool, true, false, _||_}
+use mathlib.Core.Bool.{Bool, true, false, _||_, _&&_}
 use mathlib.Core.Logic.{_≢_, inl, inr}
 use native.Mathlib.Omega.{arith}
-use lib.Dec.{eqb}
+use lib.Dec.{eqb, ltb, leb}
 use lib.ListN.{length, getD, take, drop, length-take, length-drop, drop-of-length-le}
 use lib.Seq.{getD-take, getD-drop, take-suc, length-take-le, take-all, take-add, take-take, drop-at, drop-drop}
-use borrow.Author.Tests.{eqb-true, ne-eqb}
+use borrow.Author.Tests.{eqb-true, ne-eqb, ltb-true, leb-true}
 use Rattle.lists.specs.Notation.{if_then_else_, front, every}
 use Rattle.lists.specs.Rooms.{Put}
 use Rattle.lists.proofs.Choice.{no-way, and-true}
@@ -41,12 +41,13 @@ use Rattle.decoder.specs.declared.stream.Stream.{Stream}
 use Rattle.decoder.specs.Machine.{Data, Step, nothing, stepData, step}
 use Rattle.decoder.specs.Pieces.{pieceOf, oneOf}
 use Rattle.decoder.specs.Runs.{plain, endOf}
-use Rattle.decoder.specs.Stream.{At, atBy, Walked, stopsAt, onward, walk, isPart, stBy, heldOf, recordOf, atOf}
+use Rattle.decoder.specs.Stream.{At, atBy, Walked, stopsAt, onward, lacksRoom, walk, isPart, stBy, heldOf, recordOf, atOf}
 use Rattle.decoder.specs.Turns.{Fits}
 use Rattle.decoder.specs.Feeding.{OpenAt, Open, Moves}
-use Rattle.decoder.specs.Skims.{Runs, inReference, Closes, Ends, Stands, Alone, Skims}
+use Rattle.decoder.specs.Skims.{Runs, inReference, Closes, Ends, Stands, Alone, hasRoom, Skims}
 use Rattle.decoder.proofs.ClosedReferences.{Passes, walk-closed}
 use Rattle.decoder.proofs.PieceLaws.{character-read}
+use Rattle.decoder.proofs.Room.{room-only}
 use Rattle.decoder.proofs.Looks.{Looks, ascii, wide, looks, passes-ascii, alphanumeric-ascii}
 use Rattle.decoder.proofs.Quiet.{plain-is, plain-calls, calls-none}
 use Rattle.decoder.proofs.Unfolding.{all-append}
@@ -182,6 +183,22 @@ module _ {context : Context} {before : ℕ} {s : List ℕ} {from : ℕ} {text er
     -- The room that is left.
     pub skims-room : (length text′ ≡ length text) × (length errors′ ≡ length errors)
     skims-room = (put-length (g .wrote .texts), put-length (g .wrote .numbers-of))
+
+    -- Where it is not found lacking, there is room for a byte.
+    pub skims-free : {lacks : Bool} → lacks ≡ lacksRoom (length text′ - w′) (length errors′ - e′) → lacks ≡ false
+        → (64 ≤ length text′ - w′) × (8 ≤ length errors′ - e′)
+    skims-free is free = room-only (length text′ - w′) (length errors′ - e′) (sym is ∙ free)
+
+    -- Where a piece is found to have its room, it has bytes, and the room is there.
+    pub skims-fits : (p : Piece) {has : Bool} → has ≡ hasRoom (p .size) (length text′ - w′) (length errors′ - e′) → has ≡ true
+        → (0 < p .size) × (64 + p .size ≤ length text′ - w′) × (8 + 2 * p .size ≤ length errors′ - e′)
+    skims-fits p is fits =
+        let f = and-true (ltb 0 (p .size) && leb (64 + p .size) (length text′ - w′)) (leb (8 + 2 * p .size) (length errors′ - e′)) (sym is ∙ fits) in
+        let h = and-true (ltb 0 (p .size)) (leb (64 + p .size) (length text′ - w′)) (f .0) in (
+          ltb-true 0 (p .size) (h .0),
+          leb-true (64 + p .size) (length text′ - w′) (h .1),
+          leb-true (8 + 2 * p .size) (length errors′ - e′) (f .1),
+        )
 
 -- Where nothing is held a stream is open.
 open-data : (n : ℕ) → OpenAt (atBy Data [] n)
@@ -389,9 +406,14 @@ stands-closed {context} {s} {table} {n} {p} c first t is size = record {
         front-reference context s n (omega (arith, c .some)) (c .there) first
         ∙ ap (λ (names : List Name). standard.reference names context (take (n - 1) (drop 1 s))) (sym (ap records t ∙ table-read)) ∙ sym is
 
+-- Its bytes are there.
+pub alone-there : {context : Context} {s : List ℕ} (p : Piece) → Alone context s p → p .size ≤ length s
+alone-there p (inl none) = omega (arith, ap (λ (x : Piece). x .size) none)
+alone-there p (inr a) = a .there
+
 -- A piece that has bytes stands so.
-pub alone-stands : {context : Context} {s : List ℕ} (p : Piece) → Alone context s p → p .size ≢ 0 → Stands context s p
-alone-stands p (inl none) some = absurd (some (ap (λ (x : Piece). x .size) none))
+pub alone-stands : {context : Context} {s : List ℕ} (p : Piece) → Alone context s p → 0 < p .size → Stands context s p
+alone-stands p (inl none) some = absurd (omega (arith, ap (λ (x : Piece). x .size) none))
 alone-stands p (inr a) some = a
 
 -- Bytes of a reference so far, and one more.

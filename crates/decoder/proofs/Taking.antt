@@ -32,7 +32,7 @@ use Rattle.decoder.specs.Feeding.{OpenAt, Open, byteWalk, Walks, Bounded
 use Rattle.decoder.proofs.Keeps.{step-fits}
 use Rattle.decoder.proofs.Layer.{completes-own}
 use Rattle.decoder.proofs.Open.{at-back}
-use Rattle.decoder.proofs.Room.{lacks-so, room-so}
+use Rattle.decoder.proofs.Room.{lacks-so, room-so, room-only}
 use Rattle.decoder.proofs.Walks.{walkAfter, walk-on, walk-stops, walk-one, walk-full}
 
 -- The record of where an open stream is.
@@ -182,6 +182,13 @@ module _ {start : Stream} {chunk text₀ errors₀ : List ℕ} where
       omega (arith, g .wrote .texts .next-is),
       omega (arith, g .wrote .numbers-of .next-is, numbers-length (g .so-far .errors)),
     )
+
+    -- Where it is not found lacking, there is room for the next byte.
+    pub taken-free : {lacks : Bool} → lacks ≡ lacksRoom (length text - w) (length errors - e) → lacks ≡ false
+        → (w + 64 ≤ length text) × (e + 8 ≤ length errors)
+    taken-free is free =
+        let room = room-only (length text - w) (length errors - e) (sym is ∙ free) in
+        (omega (arith, room .0, g .text-in), omega (arith, room .1, g .errors-in))
 
     -- The record is that of an open stream, of the same context, with its bytes counted.
     pub taken-open : Open r

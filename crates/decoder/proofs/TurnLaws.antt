@@ -10,7 +10,7 @@ use lib.Dec.{ltb, eqb}
 use lib.ListN.{length, getD, take, drop, set, replicate, length-append, length-replicate}
 use lib.Seq.{drop-length, take-append-seam, set-append-seam}
 use borrow.Author.Tests.{lt-ltb, le-ltb, eq-eqb, ne-eqb, eqb-true}
-use Rattle.lists.proofs.Choice.{below?}
+use Rattle.lists.proofs.Choice.{below?, or-true}
 use Rattle.standard.specs.declared.Context.{Context}
 use Rattle.standard.specs.Utf8.{octets, encode}
 use Rattle.standard.specs.Errors.{placed}
@@ -29,7 +29,7 @@ use Rattle.decoder.specs.Machine.{St, Data, AfterCr, Begin, Step, to, af
 use Rattle.decoder.specs.Pieces.{pieceOf, oneOf, noneOf}
 use Rattle.decoder.specs.Stream.{padded, storeOf, markOf, kindOf, heldOf, stBy, stOf}
 use Rattle.decoder.specs.Turns.{asciiOf, Fits, Fit, Stored, releasedOf, Releases, Turns, Follows}
-use Rattle.decoder.proofs.Looks.{AsciiOnly, alphanumeric-ascii, digit-ascii, equal-ascii, passes-ascii}
+use Rattle.decoder.proofs.Looks.{AsciiOnly, alphanumeric-ascii, digit-ascii, equal-ascii, passes-ascii, is-x, is-x-ascii}
 use Rattle.decoder.proofs.PieceLaws.{one-is, one-code, alone}
 
 -- A test that only ASCII passes, of a character as a byte.
@@ -55,6 +55,16 @@ ascii-letter c is read e = sym (read ∙ ap alphanumeric is ∙ ascii-test alpha
 -- A character whose byte is an ASCII byte is that byte.
 pub ascii-own : (k : ℕ) → k < 0x80 → (c : ℕ) {b : ℕ} → b ≡ asciiOf c → b ≡ k → c ≡ b
 ascii-own k few c is e = eqb-true c k (ascii-is k few c is e) ∙ sym e
+
+-- A character is `x` or `X` where its byte b is, and it is that byte.
+module _ (c : ℕ) {b : ℕ} (is : b ≡ asciiOf c) where
+  pub ascii-x : {t : Bool} → is-x b ≡ t → is-x c ≡ t
+  ascii-x e = sym (ascii-test is-x is-x-ascii c) ∙ ap is-x (sym is) ∙ e
+
+  pub ascii-x-own : is-x b ≡ true → c ≡ b
+  ascii-x-own e =
+      ⊎-elim (λ h. ascii-own (code "x") (omega arith) c is (eqb-true b (code "x") h))
+      (λ h. ascii-own (code "X") (omega arith) c is (eqb-true b (code "X") h)) (or-true (eqb b (code "x")) (eqb b (code "X")) e)
 
 -- A character's byte b as a digit of a base.
 module _ (base : ℕ) (few : base ≤ 16) (c : ℕ) {b digit : ℕ} (is : b ≡ asciiOf c) (counts : digit ≡ digitOf b) where

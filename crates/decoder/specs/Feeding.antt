@@ -2,13 +2,13 @@
 use Prim.Native.Nat.{ℕ, suc, _+_, _-_, _*_, _≤_}
 use mathlib.Core.Path.{_≡_}
 use mathlib.Core.List.{List, [], _∷_, _++_}
-use mathlib.Core.Bool.{true, not}
-use lib.Dec.{eqb}
+use mathlib.Core.Bool.{Bool, true, not}
+use lib.Dec.{eqb, ltb}
 use lib.ListN.{length, take, drop}
 use Rattle.lists.specs.Notation.{if_then_else_}
 use Rattle.standard.specs.declared.Context.{Context}
 use Rattle.standard.specs.Utf8.{readChar}
-use Rattle.standard.specs.Answers.{done}
+use Rattle.standard.specs.Answers.{done, too-long, stream-too-long, no-room, closed, longest-slice, longest-stream}
 use Rattle.standard.specs.Names.{Name}
 use Rattle.standard.specs.NameList.{builtin}
 use Rattle.standard.specs.Reading.{callsFor, Reading}
@@ -18,6 +18,15 @@ use Rattle.decoder.specs.declared.stream.Stream.{Stream}
 use Rattle.decoder.specs.Machine.{Step, step}
 use Rattle.decoder.specs.Stream as spec
 use Rattle.decoder.specs.Turns.{Fits}
+
+-- Why a chunk of so many bytes is refused, and 0 where it is not: whether the record is open, how many bytes were taken, and the rooms.
+unfoldable pub refusalOf : Bool → (taken chunk text errors : ℕ) → ℕ
+refusalOf opened taken chunk text errors =
+    if not opened then closed
+    else if ltb longest-slice chunk then too-long
+    else if ltb longest-stream (taken + chunk) then stream-too-long
+    else if spec.lacksRoom text errors then no-room
+    else done
 
 -- Where an open stream can be.
 pub record OpenAt (at : spec.At) : Type 0 where

@@ -3,9 +3,9 @@ use Prim.Native.Nat.{ℕ, _+_, _-_, _*_, _≤_}
 use Prim.Native.Char.{code}
 use mathlib.Core.Path.{_≡_}
 use mathlib.Core.List.{List, []}
-use mathlib.Core.Bool.{Bool, true, _||_}
+use mathlib.Core.Bool.{Bool, true, _||_, _&&_}
 use mathlib.Core.Logic.{_⊎_}
-use lib.Dec.{eqb}
+use lib.Dec.{eqb, ltb, leb}
 use lib.ListN.{length, getD, take, drop}
 use Rattle.lists.specs.Notation.{every}
 use Rattle.standard.specs.declared.Context.{Context}
@@ -52,6 +52,10 @@ pub record Stands (context : Context) (s : List ℕ) (p : Piece) : Type 0 where
 -- Such a piece, or one of no bytes.
 abbrev pub Alone : Context → List ℕ → Piece → Type 0
 Alone context s p = (p ≡ noneOf 0) ⊎ Stands context s p
+
+-- So much room is enough for a piece of size bytes and before each of them, where it has any.
+abbrev pub hasRoom : (size text errors : ℕ) → Bool
+hasRoom size text errors = ltb 0 size && leb (64 + size) text && leb (8 + 2 * size) errors
 
 -- The bytes of s from `from` to at were read with nothing held before and after, before bytes were taken before s, and what they give was written.
 pub record Skims (context : Context) (before : ℕ) (s : List ℕ) (from at : ℕ) (text : List ℕ) (w : ℕ) (text′ : List ℕ) (w′ : ℕ) (errors : List ℕ)

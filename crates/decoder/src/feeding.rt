@@ -1,7 +1,8 @@
 // The bytes of a chunk: they are skimmed where nothing is held, and else met one by one.
 ghost use mathlib.Core.Path.{_≡_};
 ghost use Prim.Native.Nat.{_≤_, _<_, _+_};
-ghost use lib.ListN.{length, take};
+ghost use mathlib.Core.List.{_∷_, []};
+ghost use lib.ListN.{length, getD, take, set};
 ghost use Rattle.standard.specs.Utf8.{encode};
 ghost use Rattle.standard.specs.Names.{tableOf};
 ghost use Rattle.standard.specs.NameList.{builtin};
@@ -22,6 +23,7 @@ use crate::turns::data;
 use crate::turns::finish;
 use crate::turns::step;
 use crate::writers::Written;
+use crate::writers::lacks_room;
 use crate::writers::put_piece;
 use standard::Context;
 use standard::characters::CharRead;
@@ -211,6 +213,16 @@ fn keep_byte(record: Stream, own: &[u8], n: usize) -> Stream
     }
 }
 
+// The first n bytes of a part, and one byte more.
+fn with_byte(part: [u8; 3], n: usize, b: u8) -> [u8; 4]
+    requires { ⌜ n ≤ 3 ⌝ }
+    ensures { λ r. ⌜ r ≡ set (getD part 0 0 ∷ getD part 1 0 ∷ getD part 2 0 ∷ 0 ∷ []) n b ⌝ }
+{
+    let mut own = [part[0], part[1], part[2], 0];
+    own[n] = b;
+    own
+}
+
 // The next byte.
 fn take_byte(
     table: &[u8],
@@ -228,8 +240,7 @@ fn take_byte(
 {
     let part = record.part;
     let n = record.part_count;
-    let mut own = [part[0], part[1], part[2], 0];
-    own[n] = b;
+    let own = with_byte(part, n, b);
     match read_char(&own[..n + 1]) {
         CharRead::Char { value, len: _ } => take_char(table, record, value, text, w, errors, e),
         CharRead::Incomplete(_) => Walked {
@@ -333,8 +344,7 @@ pub(crate) fn walk(
     let mut e: usize = 0;
     while at < chunk.len() {
         let ahead = skim_on(table, record, chunk, at, text, w, errors, e);
-        let there = ahead.record;
-        record = there;
+        record = ahead.record;
         at = ahead.at;
         w = ahead.text;
         e = ahead.errors;
@@ -346,15 +356,7 @@ pub(crate) fn walk(
                 errors: e,
             };
         }
-        if text.len() - w < 64 {
-            return Walked {
-                answer: 6,
-                record,
-                text: w,
-                errors: e,
-            };
-        }
-        if errors.len() - e < 8 {
+        if lacks_room(text.len() - w, errors.len() - e) {
             return Walked {
                 answer: 6,
                 record,

@@ -6,13 +6,14 @@ ghost use lib.ListN.{length, getD, take, drop};
 ghost use Rattle.lists.specs.Rooms.{Put};
 ghost use Rattle.standard.specs.Names.{tableOf};
 ghost use Rattle.standard.specs.NameList.{builtin};
-ghost use Rattle.decoder.specs.Skims.{Runs, inReference, Ends, Alone, Skims};
+ghost use Rattle.decoder.specs.Skims.{Runs, inReference, Ends, Alone, hasRoom, Skims};
 use crate::classes::alphanumeric;
 use crate::classes::character_code;
 use crate::pieces::Piece;
 use crate::pieces::reference;
 use crate::runs::plain_run;
 use crate::stops::calls_for;
+use crate::writers::lacks_room;
 use crate::writers::put_piece;
 use standard::Context;
 use standard::characters::CharRead;
@@ -113,6 +114,14 @@ fn alone(table: &[u8], context: Context, rest: &[u8]) -> Piece
     Piece::one(len, value, character_code(value), 0)
 }
 
+// Whether so much free room is enough for a piece of size bytes and before each of them, where it has any.
+fn has_room(size: usize, text: usize, errors: usize) -> bool
+    requires { ⌜ size ≤ 16777216 ⌝ }
+    ensures { λ r. ⌜ r ≡ hasRoom size text errors ⌝ }
+{
+    (0 < size) & (64 + size <= text) & (8 + 2 * size <= errors)
+}
+
 // The place in the chunk up to which it was read, and the places after what was written.
 pub(crate) struct Skimmed {
     pub at: usize,
@@ -141,14 +150,7 @@ pub(crate) fn skim(
     let mut w = w0;
     let mut e = e0;
     while at < chunk.len() {
-        if text.len() - w < 64 {
-            return Skimmed {
-                at,
-                text: w,
-                errors: e,
-            };
-        }
-        if errors.len() - e < 8 {
+        if lacks_room(text.len() - w, errors.len() - e) {
             return Skimmed {
                 at,
                 text: w,
@@ -160,21 +162,7 @@ pub(crate) fn skim(
         w = run.text;
         let piece = alone(table, context, &chunk[at..]);
         let size = piece.size;
-        if size == 0 {
-            return Skimmed {
-                at,
-                text: w,
-                errors: e,
-            };
-        }
-        if text.len() - w < 64 + size {
-            return Skimmed {
-                at,
-                text: w,
-                errors: e,
-            };
-        }
-        if errors.len() - e < 8 + 2 * size {
+        if !has_room(size, text.len() - w, errors.len() - e) {
             return Skimmed {
                 at,
                 text: w,

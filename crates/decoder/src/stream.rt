@@ -6,6 +6,7 @@ ghost use lib.ListN.{length, take};
 ghost use Rattle.lists.specs.Notation.{if_then_else_};
 ghost use Rattle.standard.specs.NameList.{builtin};
 ghost use Rattle.decoder.specs.Stream as spec;
+ghost use Rattle.decoder.specs.Feeding.{refusalOf};
 use crate::feeding::Walked;
 use crate::feeding::kept;
 use crate::feeding::put_last;
@@ -14,6 +15,7 @@ use crate::numbers::stopped;
 use crate::opening::is_open;
 use crate::turns::after_cr;
 use crate::turns::data;
+use crate::writers::lacks_room;
 use standard::Context;
 use standard::table::builtin_names;
 
@@ -145,6 +147,25 @@ fn closed(context: Context, taken: u32) -> Stream
     }
 }
 
+// Why a chunk of so many bytes is refused, 8, 3, 4 or 5, and 0 where it is not. The end is refused as a chunk of no bytes is.
+fn refusal(opened: bool, taken: u32, chunk: usize, text: usize, errors: usize) -> u32
+    ensures { λ r. ⌜ r ≡ refusalOf opened taken chunk text errors ⌝ }
+{
+    if !opened {
+        return 8;
+    }
+    if 65536 < chunk {
+        return 3;
+    }
+    if 16777216 < taken as usize + chunk {
+        return 4;
+    }
+    if lacks_room(text, errors) {
+        return 5;
+    }
+    0
+}
+
 // Nothing changes.
 fn refused(answer: u32, record: Stream) -> Fed
     ensures { λ r. ⌜ r ≡ spec.fedOf (spec.refuses answer «record») ⌝ }
@@ -231,21 +252,11 @@ impl Stream {
             (now (text .entry)) (now (errors .entry)) r (now (text .exit)) (now (errors .exit)) ⌝ }
     {
         let table = builtin_names();
-        if !is_open(&table, self) {
-            return refused(8, self);
-        }
-        if 65536 < chunk.len() {
-            return refused(3, self);
-        }
+        let opened = is_open(&table, self);
         let before = self.taken;
-        if 16777216 < before as usize + chunk.len() {
-            return refused(4, self);
-        }
-        if text.len() < 64 {
-            return refused(5, self);
-        }
-        if errors.len() < 8 {
-            return refused(5, self);
+        let answer = refusal(opened, before, chunk.len(), text.len(), errors.len());
+        if answer != 0 {
+            return refused(answer, self);
         }
         let context = self.context;
         let walked = walk(&table, cleared_record(self), chunk, text, errors);
@@ -258,17 +269,13 @@ impl Stream {
             (now (text .entry)) (now (errors .entry)) r (now (text .exit)) (now (errors .exit)) ⌝ }
     {
         let table = builtin_names();
-        if !is_open(&table, self) {
-            return refused(8, self);
-        }
-        if text.len() < 64 {
-            return refused(5, self);
-        }
-        if errors.len() < 8 {
-            return refused(5, self);
+        let opened = is_open(&table, self);
+        let taken = self.taken;
+        let answer = refusal(opened, taken, 0, text.len(), errors.len());
+        if answer != 0 {
+            return refused(answer, self);
         }
         let context = self.context;
-        let taken = self.taken;
         if 0 < self.part_count {
             return Fed {
                 answer: 1,

@@ -188,10 +188,7 @@ fn turn_octothorpe(held: Held, p: u32, c: u32) -> Turn
     ensures { λ r. ⌜ Turns held p r (machine.stepOctothorpe (held .place) p c (encode c)) ⌝ }
 {
     let b = ascii(c);
-    if b == b'x' {
-        return absorbed(2, hold(held, State::HexBegin, b));
-    }
-    if b == b'X' {
+    if (b == b'x') | (b == b'X') {
         return absorbed(2, hold(held, State::HexBegin, b));
     }
     let digit = digit_of(b);

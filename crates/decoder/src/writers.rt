@@ -11,8 +11,16 @@ ghost use Rattle.standard.specs.Pieces.{charRefText};
 ghost use Rattle.standard.specs.Reading.{readingAt};
 ghost use Rattle.decoder.specs.Writing.{Wrote};
 ghost use Rattle.decoder.specs.Pieces.{pieceOf};
+ghost use Rattle.decoder.specs.Stream.{lacksRoom};
 use crate::pieces::Piece;
 use standard::names::CharRef;
+
+// Whether so much free room is less than is asked for before a byte.
+pub(crate) fn lacks_room(text: usize, errors: usize) -> bool
+    ensures { λ r. ⌜ r ≡ lacksRoom text errors ⌝ }
+{
+    (text < 64) | (errors < 8)
+}
 
 // A number that is no scalar value is written as U+FFFD.
 fn replaced(c: u32) -> u32

@@ -2,7 +2,7 @@ use Prim.Native.Nat.{ℕ, _+_}
 use mathlib.Core.Path.{_≡_, sym, _∙_, ap}
 use mathlib.Core.List.{List, [], _∷_, _++_}
 use native.Mathlib.Omega.{arith}
-use lib.ListN.{length, length-take, length-set, length-append}
+use lib.ListN.{length, take, length-take, length-set, length-append}
 use borrow.Author.Needs.{needs}
 use Rattle.standard.specs.Utf8.{readChar}
 use Rattle.standard.proofs.Utf8.{end-length}
@@ -11,28 +11,20 @@ use Rattle.decoder.proofs.Releasing.{open-fit, open-part, part-long, ow
 use Rattle.decoder.proofs.feeding.take_byte.Statement.{statement}
 use Rattle.decoder.proofs.feeding.take_byte.Tie as tie
 
-array-read-t14 : tie.Need-array-read-t14
-array-read-t14 c = search needs
-
-array-read-t17 : tie.Need-array-read-t17
-array-read-t17 c = search needs
-
-array-read-t20 : tie.Need-array-read-t20
-array-read-t20 c = search needs
-
-array-write-own : tie.Need-array-write-own
-array-write-own c = let a = c .before .before .before .before in omega (arith, part-long (a .args .«record») (a .pre .1))
+with-byte-requires : tie.Need-with-byte-requires
+with-byte-requires c κs = let a = c .before .before .before .before in omega (arith, part-long (a .args .«record») (a .pre .1))
 
 add-own : tie.Need-add-own
-add-own c = let a = c .before .before .before .before in omega (arith, part-long (a .args .«record») (a .pre .1))
+add-own c = let a = c .before .before .before .before .before in omega (arith, part-long (a .args .«record») (a .pre .1))
 
 array-share-prefix-own : tie.Need-array-share-prefix-own
-array-share-prefix-own c = let a = c .before .before .before .before in simp length-set (omega (arith, part-long (a .args .«record») (a .pre .1)))
+array-share-prefix-own c =
+    let a = c .before .before .before .before .before in rw (c .with-byte .ensures) (simp length-set (omega (arith, part-long (a .args .«record») (a .pre .1))))
 
 slice-aggregate-read-char : tie.Need-slice-aggregate-read-char
 slice-aggregate-read-char c =
-    let a = c .before .before .before .before .before in
-    simp (length-take, length-set) (omega (arith, part-long (a .args .«record») (a .pre .1)))
+    let a = c .before .before .before .before .before .before in
+    rw (c .before .with-byte .ensures) (simp (length-take, length-set) (omega (arith, part-long (a .args .«record») (a .pre .1))))
 
 read-char-requires : tie.Need-read-char-requires
 read-char-requires c κs = search needs
@@ -41,7 +33,7 @@ enum-known-value : tie.Need-enum-known-value
 enum-known-value c = search needs
 
 take-char-requires : tie.Need-take-char-requires
-take-char-requires c κs = let a = c .before .before .before .before .before .before .before .before .before .before .before in a .pre
+take-char-requires c κs = c .before .before .before .before .before .before .before .before .before .before .before .before .pre
 
 enum-told : tie.Need-enum-told
 enum-told c = search needs
@@ -50,21 +42,18 @@ slice-aggregate-keep-byte : tie.Need-slice-aggregate-keep-byte
 slice-aggregate-keep-byte c = search needs
 
 add-keep-byte : tie.Need-add-keep-byte
-add-keep-byte c = let a = c .before .before .before .before .before .before .before .before .before in omega (
-  arith,
-  part-long (a .args .«record»)
-      (a .pre .1),
-)
+add-keep-byte c = let a = c .before .before .before .before .before .before .before .before .before .before in omega (arith, part-long (a .args .«record») (a .pre .1))
 
 keep-byte-requires : tie.Need-keep-byte-requires
 keep-byte-requires c κs =
-    let a = c .before .before .before .before .before .before .before .before .before in
+    let d = c .before .before .before in
+    let y = d .before .before in
+    let a = y .before .before .before .before .before in
     let r = a .args .«record» in
-    let three : length (r .part) ≡ 3 = open-part r (a .pre .1) in
-    let read = sym (own-list r (a .pre .1) three (a .args .b)) in
-    let is = ap readChar read ∙ sym (c .before .before .before .read-char .ensures) ∙ c .before .enum-told .given .1 in
-    let few = kept-few r (a .pre .1) (a .args .b) is in
-    (few, simp length-set (omega (arith, few)), a .pre .2, open-fit r (a .pre .1) .whole)
+    let own = ap (take (r .«part_count» + 1)) (y .with-byte .ensures) ∙ own-list r (a .pre .1) (open-part r (a .pre .1)) (a .args .b) in
+    let read = ap readChar (sym own) ∙ sym (d .read-char .ensures) in
+    let few = kept-few r (a .pre .1) (a .args .b) (read ∙ c .before .enum-told .given .1) in
+    (few, rw (y .with-byte .ensures) (simp length-set (omega (arith, few))), a .pre .2, open-fit r (a .pre .1) .whole)
 
 enum-told-2 : tie.Need-enum-told-2
 enum-told-2 c = search needs
@@ -80,24 +69,23 @@ same-length-2 c = search needs
 
 returns : tie.Need-returns
 returns c =
-    let far = c .before .before .before .before .before .before .before .before .before .before in
-    let a = far .before .before .before .before .before .before in
+    let d = c .before .before .before .before .before .before .before .before .before .before in
+    let y = d .before .before in
+    let a = y .before .before .before .before .before in
     let r = a .args .«record» in
-    let own-is = own-list r (a .pre .1) (open-part r (a .pre .1)) (a .args .b) in
-    let read = ap readChar (sym own-is) ∙ sym (far .read-char .ensures) in
-    let t = c .before .before .before .before .take-char .ensures in (
-      byte-char r (a .pre .1) (a .args .b) (read ∙ c .before .before .before .before .before .before .before .before .value .given .1)
-          (t .0),
-      t .1,
-      t .2,
-    )
+    let own = ap (take (r .«part_count» + 1)) (y .with-byte .ensures) ∙ own-list r (a .pre .1) (open-part r (a .pre .1)) (a .args .b) in
+    let read = ap readChar (sym own) ∙ sym (d .read-char .ensures) in
+    let t = c .before .before .before .before .take-char .ensures in
+    (byte-char r (a .pre .1) (a .args .b) (read ∙ c .before .before .before .before .before .before .before .before .value .given .1) (t .0), t .1, t .2)
 
 returns-2 : tie.Need-returns-2
 returns-2 c =
-    let a = c .before .before .before .before .before .before .before .before .before .before in
+    let d = c .before .before .before .before in
+    let y = d .before .before in
+    let a = y .before .before .before .before .before in
     let r = a .args .«record» in
-    let own = own-list r (a .pre .1) (open-part r (a .pre .1)) (a .args .b) in
-    let read = ap readChar (sym own) ∙ sym (c .before .before .before .before .read-char .ensures) in (
+    let own = ap (take (r .«part_count» + 1)) (y .with-byte .ensures) ∙ own-list r (a .pre .1) (open-part r (a .pre .1)) (a .args .b) in
+    let read = ap readChar (sym own) ∙ sym (d .read-char .ensures) in (
       byte-kept r (a .pre .1) (a .args .b) (read ∙ c .before .before .enum-told .given .1)
           (c .keep-byte .ensures ∙ ap (λ (l : List ℕ). recordOf (r .context) (atBy (stOf (r .held)) l (r .taken + 1))) own),
       omega arith,
@@ -106,29 +94,30 @@ returns-2 c =
 
 returns-3 : tie.Need-returns-3
 returns-3 c =
-    let a = c .before .before .before .before .before .before .before .before in
+    let d = c .before .before in
+    let y = d .before .before in
+    let a = y .before .before .before .before .before in
     let r = a .args .«record» in
-    let own-is = own-list r (a .pre .1) (open-part r (a .pre .1)) (a .args .b) in
-    let read = ap readChar (sym own-is) ∙ sym (c .before .before .read-char .ensures) in
+    let own = ap (take (r .«part_count» + 1)) (y .with-byte .ensures) ∙ own-list r (a .pre .1) (open-part r (a .pre .1)) (a .args .b) in
+    let read = ap readChar (sym own) ∙ sym (d .read-char .ensures) in
     (byte-ill r (a .pre .1) (a .args .b) (read ∙ c .enum-told2 .given .1), omega arith, omega arith)
 
 returns-4 : tie.Need-returns-4
 returns-4 c =
-    let a = c .before .before .before .before .before .before .before .before in
+    let d = c .before .before in
+    let y = d .before .before in
+    let a = y .before .before .before .before .before in
     let r = a .args .«record» in
-    let own-is = own-list r (a .pre .1) (open-part r (a .pre .1)) (a .args .b) in
-    let read = ap readChar (sym own-is) ∙ sym (c .before .before .read-char .ensures) in
-    let own = atOf r .part ++ a .args .b ∷ [] in
-    absurd (omega (arith, end-length own (read ∙ c .enum-told3 .given .1), length-append (atOf r .part) (a .args .b ∷ [])))
+    let own = ap (take (r .«part_count» + 1)) (y .with-byte .ensures) ∙ own-list r (a .pre .1) (open-part r (a .pre .1)) (a .args .b) in
+    let read = ap readChar (sym own) ∙ sym (d .read-char .ensures) in
+    let all = atOf r .part ++ a .args .b ∷ [] in
+    absurd (omega (arith, end-length all (read ∙ c .enum-told3 .given .1), length-append (atOf r .part) (a .args .b ∷ [])))
 
 pub take-byte-spec : {M : Type 1} → statement M
 take-byte-spec =
     tie.close
     (tie.spec
-    array-read-t14
-    array-read-t17
-    array-read-t20
-    array-write-own
+    with-byte-requires
     add-own
     array-share-prefix-own
     slice-aggregate-read-char

@@ -2,10 +2,20 @@
 use Prim.Native.Nat.{_-_}
 use native.Mathlib.Omega.{arith}
 use lib.ListN.{length, length-drop}
+use borrow.Author.Tests.{not-false}
 use borrow.Author.Needs.{needs}
 use Rattle.standard.proofs.Skips.{rest-from}
 use Rattle.decoder.specs.Skims.{Skims}
-use Rattle.decoder.proofs.SkimLaws.{skims-start, skims-room, skims-run, skims-alone, alone-stands}
+use Rattle.decoder.proofs.SkimLaws.{
+  skims-start,
+  skims-run,
+  skims-alone,
+  skims-room,
+  skims-free,
+  skims-fits,
+  alone-there,
+  alone-stands,
+}
 use Rattle.decoder.proofs.skimming.skim.Statement.{statement}
 use Rattle.decoder.proofs.skimming.skim.Tie as tie
 
@@ -19,36 +29,29 @@ abbrev μ-loop : tie.MeasureT-loop
 loop-holds : tie.Need-loop-holds Inv-loop μ-loop
 loop-holds c = let p = c .before .before .before .before .pre in skims-start (p .2) (p .3) (p .4)
 
-sub-if1 : tie.Need-sub-if1 Inv-loop μ-loop
-sub-if1 c = omega (arith, c .before .loop .inv .text-in)
+sub-lacks-room : tie.Need-sub-lacks-room Inv-loop μ-loop
+sub-lacks-room c = omega (arith, c .before .loop .inv .text-in)
+
+sub-lacks-room-2 : tie.Need-sub-lacks-room-2 Inv-loop μ-loop
+sub-lacks-room-2 c = omega (arith, c .before .loop .inv .errors-in)
+
+lacks-room-requires : tie.Need-lacks-room-requires Inv-loop μ-loop
+lacks-room-requires c κs = search needs
 
 same-length : tie.Need-same-length Inv-loop μ-loop
-same-length c = skims-room (c .before .before .loop .inv) .0
+same-length c = skims-room (c .before .before .before .loop .inv) .0
 
 same-length-2 : tie.Need-same-length-2 Inv-loop μ-loop
-same-length-2 c = skims-room (c .before .before .loop .inv) .1
+same-length-2 c = skims-room (c .before .before .before .loop .inv) .1
 
 returns : tie.Need-returns Inv-loop μ-loop
-returns c = c .before .before .loop .inv
-
-sub-if2 : tie.Need-sub-if2 Inv-loop μ-loop
-sub-if2 c = omega (arith, c .before .before .loop .inv .errors-in)
-
-same-length-3 : tie.Need-same-length-3 Inv-loop μ-loop
-same-length-3 c = skims-room (c .before .before .before .loop .inv) .0
-
-same-length-4 : tie.Need-same-length-4 Inv-loop μ-loop
-same-length-4 c = skims-room (c .before .before .before .loop .inv) .1
-
-returns-2 : tie.Need-returns-2 Inv-loop μ-loop
-returns-2 c = c .before .before .before .loop .inv
+returns c = c .before .before .before .loop .inv
 
 copy-run-requires : tie.Need-copy-run-requires Inv-loop μ-loop
-copy-run-requires c κs = let l = c .before .before .before .before .loop in (
-  l .inv .there,
-  omega
-      (arith, l .inv .text-in, c .before .before .if1 .left),
-)
+copy-run-requires c κs =
+    let l = c .before .before .before .before .loop in
+    let room = skims-free (l .inv) (c .before .before .lacks-room .ensures) (c .before .if1 .left) in
+    (l .inv .there, omega (arith, l .inv .text-in, room .0))
 
 sub-alone : tie.Need-sub-alone Inv-loop μ-loop
 sub-alone c = c .before .before .copy-run .ensures .0 .there
@@ -61,204 +64,121 @@ part-alone-end c = search needs
 
 alone-requires : tie.Need-alone-requires Inv-loop μ-loop
 alone-requires c κs =
-    let far = c .before .before .before .before .before .before .before .before .before .before in
-    far .before .before .before .pre .0
+    let l = c .before .before .before .before .before .before .before .before in
+    l .before .before .before .before .before .pre .0
 
-same-length-5 : tie.Need-same-length-5 Inv-loop μ-loop
-same-length-5 c =
-    let r = c .before .before .before .before .before in
-    let i = r .before .before in
-    let l = i .before .before .before .loop in
-    let k = skims-run (l .inv) _ (omega (arith, i .if2 .left)) (r .copy-run .ensures .0) (r .copy-run .ensures .1) in
-    skims-room k .0
-
-same-length-6 : tie.Need-same-length-6 Inv-loop μ-loop
-same-length-6 c =
-    let r = c .before .before .before .before .before in
-    let i = r .before .before in
-    let l = i .before .before .before .loop in
-    let k = skims-run (l .inv) _ (omega (arith, i .if2 .left)) (r .copy-run .ensures .0) (r .copy-run .ensures .1) in
-    skims-room k .1
-
-returns-3 : tie.Need-returns-3 Inv-loop μ-loop
-returns-3 c =
-    let r = c .before .before .before .before .before in
-    let i = r .before .before in
-    let l = i .before .before .before .loop in
-    let k = skims-run (l .inv) _ (omega (arith, i .if2 .left)) (r .copy-run .ensures .0) (r .copy-run .ensures .1) in
-    k
-
-sub-if4 : tie.Need-sub-if4 Inv-loop μ-loop
-sub-if4 c =
-    let r = c .before .before .before .before .before in
-    let i = r .before .before in
-    let l = i .before .before .before .loop in
-    let k = skims-run (l .inv) _ (omega (arith, i .if2 .left)) (r .copy-run .ensures .0) (r .copy-run .ensures .1) in
+sub-has-room : tie.Need-sub-has-room Inv-loop μ-loop
+sub-has-room c =
+    let r = c .before .before .before .before in
+    let l = r .before .before .before .before .before .loop in
+    let room = skims-free (l .inv) (r .before .before .before .lacks-room .ensures) (r .before .before .if1 .left) in
+    let k = skims-run (l .inv) _ (room .1) (r .copy-run .ensures .0) (r .copy-run .ensures .1) in
     omega (arith, k .text-in)
 
-add-if4 : tie.Need-add-if4 Inv-loop μ-loop
-add-if4 c =
-    let u = c .before in
-    let a = alone-stands _ (rw rest-from at (u .alone .ensures)) (c .if3 .left) in
-    let r = u .before .before .before .before in
-    omega (
-      arith,
-      a .there,
-      length-drop (r .copy-run .result .at)
-          (r .before .before .before .before .before .before .before .before .before .before .args .chunk .now),
-      r .before .before .before .before .before .before .before .before .before .before .pre .1,
-    )
-
-same-length-7 : tie.Need-same-length-7 Inv-loop μ-loop
-same-length-7 c =
-    let r = c .before .before .before .before .before .before in
-    let i = r .before .before in
-    let l = i .before .before .before .loop in
-    let k = skims-run (l .inv) _ (omega (arith, i .if2 .left)) (r .copy-run .ensures .0) (r .copy-run .ensures .1) in
-    skims-room k .0
-
-same-length-8 : tie.Need-same-length-8 Inv-loop μ-loop
-same-length-8 c =
-    let r = c .before .before .before .before .before .before in
-    let i = r .before .before in
-    let l = i .before .before .before .loop in
-    let k = skims-run (l .inv) _ (omega (arith, i .if2 .left)) (r .copy-run .ensures .0) (r .copy-run .ensures .1) in
-    skims-room k .1
-
-returns-4 : tie.Need-returns-4 Inv-loop μ-loop
-returns-4 c =
-    let r = c .before .before .before .before .before .before in
-    let i = r .before .before in
-    let l = i .before .before .before .loop in
-    let k = skims-run (l .inv) _ (omega (arith, i .if2 .left)) (r .copy-run .ensures .0) (r .copy-run .ensures .1) in
-    k
-
-sub-if5 : tie.Need-sub-if5 Inv-loop μ-loop
-sub-if5 c =
-    let r = c .before .before .before .before .before .before in
-    let i = r .before .before in
-    let l = i .before .before .before .loop in
-    let k = skims-run (l .inv) _ (omega (arith, i .if2 .left)) (r .copy-run .ensures .0) (r .copy-run .ensures .1) in
+sub-has-room-2 : tie.Need-sub-has-room-2 Inv-loop μ-loop
+sub-has-room-2 c =
+    let r = c .before .before .before .before in
+    let l = r .before .before .before .before .before .loop in
+    let room = skims-free (l .inv) (r .before .before .before .lacks-room .ensures) (r .before .before .if1 .left) in
+    let k = skims-run (l .inv) _ (room .1) (r .copy-run .ensures .0) (r .copy-run .ensures .1) in
     omega (arith, k .errors-in)
 
-mul-if5 : tie.Need-mul-if5 Inv-loop μ-loop
-mul-if5 c =
-    let u = c .before .before in
-    let a = alone-stands _ (rw rest-from at (u .alone .ensures)) (c .before .if3 .left) in
-    let r = u .before .before .before .before in
-    omega (
-      arith,
-      a .there,
-      length-drop (r .copy-run .result .at)
-          (r .before .before .before .before .before .before .before .before .before .before .args .chunk .now),
-      r .before .before .before .before .before .before .before .before .before .before .pre .1,
-    )
+has-room-requires : tie.Need-has-room-requires Inv-loop μ-loop
+has-room-requires c κs =
+    let r = c .before .before .before .before in
+    let s = r .before .before .before .before .before .before .before .before .before .before in
+    omega (arith, alone-there _ (rw rest-from at (c .alone .ensures)), length-drop (r .copy-run .result .at) (s .args .chunk .now), s .pre .1)
 
-add-if5 : tie.Need-add-if5 Inv-loop μ-loop
-add-if5 c =
-    let u = c .before .before in
-    let a = alone-stands _ (rw rest-from at (u .alone .ensures)) (c .before .if3 .left) in
-    let r = u .before .before .before .before in
-    omega (
-      arith,
-      a .there,
-      length-drop (r .copy-run .result .at)
-          (r .before .before .before .before .before .before .before .before .before .before .args .chunk .now),
-      r .before .before .before .before .before .before .before .before .before .before .pre .1,
-    )
-
-same-length-9 : tie.Need-same-length-9 Inv-loop μ-loop
-same-length-9 c =
-    let r = c .before .before .before .before .before .before .before in
-    let i = r .before .before in
-    let l = i .before .before .before .loop in
-    let k = skims-run (l .inv) _ (omega (arith, i .if2 .left)) (r .copy-run .ensures .0) (r .copy-run .ensures .1) in
+same-length-3 : tie.Need-same-length-3 Inv-loop μ-loop
+same-length-3 c =
+    let r = c .before .before .before .before .before .before in
+    let l = r .before .before .before .before .before .loop in
+    let room = skims-free (l .inv) (r .before .before .before .lacks-room .ensures) (r .before .before .if1 .left) in
+    let k = skims-run (l .inv) _ (room .1) (r .copy-run .ensures .0) (r .copy-run .ensures .1) in
     skims-room k .0
 
-same-length-10 : tie.Need-same-length-10 Inv-loop μ-loop
-same-length-10 c =
-    let r = c .before .before .before .before .before .before .before in
-    let i = r .before .before in
-    let l = i .before .before .before .loop in
-    let k = skims-run (l .inv) _ (omega (arith, i .if2 .left)) (r .copy-run .ensures .0) (r .copy-run .ensures .1) in
+same-length-4 : tie.Need-same-length-4 Inv-loop μ-loop
+same-length-4 c =
+    let r = c .before .before .before .before .before .before in
+    let l = r .before .before .before .before .before .loop in
+    let room = skims-free (l .inv) (r .before .before .before .lacks-room .ensures) (r .before .before .if1 .left) in
+    let k = skims-run (l .inv) _ (room .1) (r .copy-run .ensures .0) (r .copy-run .ensures .1) in
     skims-room k .1
 
-returns-5 : tie.Need-returns-5 Inv-loop μ-loop
-returns-5 c =
-    let r = c .before .before .before .before .before .before .before in
-    let i = r .before .before in
-    let l = i .before .before .before .loop in
-    let k = skims-run (l .inv) _ (omega (arith, i .if2 .left)) (r .copy-run .ensures .0) (r .copy-run .ensures .1) in
+returns-2 : tie.Need-returns-2 Inv-loop μ-loop
+returns-2 c =
+    let r = c .before .before .before .before .before .before in
+    let l = r .before .before .before .before .before .loop in
+    let room = skims-free (l .inv) (r .before .before .before .lacks-room .ensures) (r .before .before .if1 .left) in
+    let k = skims-run (l .inv) _ (room .1) (r .copy-run .ensures .0) (r .copy-run .ensures .1) in
     k
 
 cast-put-piece : tie.Need-cast-put-piece Inv-loop μ-loop
 cast-put-piece c =
-    let r = c .before .before .before .before .before .before .before .before .before in
+    let r = c .before .before .before .before .before .before .before .before in
     omega (arith, r .copy-run .ensures .0 .there, r .before .before .before .before .before .before .before .before .before .before .pre .1)
 
 add-put-piece : tie.Need-add-put-piece Inv-loop μ-loop
 add-put-piece c =
-    let r = c .before .before .before .before .before .before .before .before .before in
+    let r = c .before .before .before .before .before .before .before .before in
     omega (arith, r .copy-run .ensures .0 .there, r .before .before .before .before .before .before .before .before .before .before .pre .1)
 
 put-piece-requires : tie.Need-put-piece-requires Inv-loop μ-loop
 put-piece-requires c κs =
-    let r = c .before .before .before .before .before .before .before .before .before in
-    let i = r .before .before in
-    let l = i .before .before .before .loop in
-    let k = skims-run (l .inv) _ (omega (arith, i .if2 .left)) (r .copy-run .ensures .0) (r .copy-run .ensures .1) in
-    (omega (arith, k .text-in, c .before .before .before .if4 .left), omega (arith, k .errors-in, c .before .before .if5 .left))
+    let r = c .before .before .before .before .before .before .before .before in
+    let l = r .before .before .before .before .before .loop in
+    let room = skims-free (l .inv) (r .before .before .before .lacks-room .ensures) (r .before .before .if1 .left) in
+    let k = skims-run (l .inv) _ (room .1) (r .copy-run .ensures .0) (r .copy-run .ensures .1) in
+    let h = skims-fits k (c .before .before .before .before .alone .result) (c .before .before .before .has-room .ensures) (not-false (c .before .before .before .has-room .result) (c .before .before .if2 .left)) in
+    (omega (arith, k .text-in, h .1), omega (arith, k .errors-in, h .2))
 
 add-at : tie.Need-add-at Inv-loop μ-loop
 add-at c =
-    let far = c .before .before .before .before .before .before .before .before .before .before in
-    let r = far .before .before .before .before in
-    let i = r .before .before in
-    let l = i .before .before .before .loop in
-    let k = skims-run (l .inv) _ (omega (arith, i .if2 .left)) (r .copy-run .ensures .0) (r .copy-run .ensures .1) in
-    let f = c .before .before .before .before .before .before .before in
-    let u = f .before .before .before in
-    let a = alone-stands _ (rw rest-from at (u .alone .ensures)) (f .before .before .if3 .left) in
+    let r = c .before .before .before .before .before .before .before .before .before .before .before .before .before in
+    let l = r .before .before .before .before .before .loop in
+    let room = skims-free (l .inv) (r .before .before .before .lacks-room .ensures) (r .before .before .if1 .left) in
+    let k = skims-run (l .inv) _ (room .1) (r .copy-run .ensures .0) (r .copy-run .ensures .1) in
+    let u = c .before .before .before .before .before .before .before .before .before .alone in
+    let h = skims-fits k (u .result) (c .before .before .before .before .before .before .before .before .has-room .ensures) (not-false (c .before .before .before .before .before .before .before .before .has-room .result) (c .before .before .before .before .before .before .before .if2 .left)) in
+    let a = alone-stands _ (rw rest-from at (u .ensures)) (h .0) in
     let p = c .before .before .before .before .put-piece .ensures in
-    let s = skims-alone k (u .alone .result) (omega (arith, f .before .if4 .left)) (omega (arith, f .if5 .left)) a (p .0) (p .1) (p .2) in
+    let s = skims-alone k (u .result) (h .1) (h .2) a (p .0) (p .1) (p .2) in
     omega (arith, s .there, r .before .before .before .before .before .before .before .before .before .before .pre .1)
 
 loop-less : tie.Need-loop-less Inv-loop μ-loop
 loop-less c =
-    let far = c .before .before .before .before .before .before .before .before .before .before in
-    let r = far .before .before .before .before in
-    let i = r .before .before in
-    let l = i .before .before .before .loop in
-    let k = skims-run (l .inv) _ (omega (arith, i .if2 .left)) (r .copy-run .ensures .0) (r .copy-run .ensures .1) in
-    let f = c .before .before .before .before .before .before .before in
-    let u = f .before .before .before in
-    let a = alone-stands _ (rw rest-from at (u .alone .ensures)) (f .before .before .if3 .left) in
+    let r = c .before .before .before .before .before .before .before .before .before .before .before .before .before in
+    let l = r .before .before .before .before .before .loop in
+    let room = skims-free (l .inv) (r .before .before .before .lacks-room .ensures) (r .before .before .if1 .left) in
+    let k = skims-run (l .inv) _ (room .1) (r .copy-run .ensures .0) (r .copy-run .ensures .1) in
+    let u = c .before .before .before .before .before .before .before .before .before .alone in
+    let h = skims-fits k (u .result) (c .before .before .before .before .before .before .before .before .has-room .ensures) (not-false (c .before .before .before .before .before .before .before .before .has-room .result) (c .before .before .before .before .before .before .before .if2 .left)) in
+    let a = alone-stands _ (rw rest-from at (u .ensures)) (h .0) in
     let p = c .before .before .before .before .put-piece .ensures in
-    let s = skims-alone k (u .alone .result) (omega (arith, f .before .if4 .left)) (omega (arith, f .if5 .left)) a (p .0) (p .1) (p .2) in
-    omega (arith, s .there, r .copy-run .ensures .0 .from, f .before .before .if3 .left)
+    let s = skims-alone k (u .result) (h .1) (h .2) a (p .0) (p .1) (p .2) in
+    omega (arith, s .there, r .copy-run .ensures .0 .from, h .0)
 
 loop-again : tie.Need-loop-again Inv-loop μ-loop
 loop-again c =
-    let far = c .before .before .before .before .before .before .before .before .before .before in
-    let r = far .before .before .before .before in
-    let i = r .before .before in
-    let l = i .before .before .before .loop in
-    let k = skims-run (l .inv) _ (omega (arith, i .if2 .left)) (r .copy-run .ensures .0) (r .copy-run .ensures .1) in
-    let f = c .before .before .before .before .before .before .before in
-    let u = f .before .before .before in
-    let a = alone-stands _ (rw rest-from at (u .alone .ensures)) (f .before .before .if3 .left) in
+    let r = c .before .before .before .before .before .before .before .before .before .before .before .before .before in
+    let l = r .before .before .before .before .before .loop in
+    let room = skims-free (l .inv) (r .before .before .before .lacks-room .ensures) (r .before .before .if1 .left) in
+    let k = skims-run (l .inv) _ (room .1) (r .copy-run .ensures .0) (r .copy-run .ensures .1) in
+    let u = c .before .before .before .before .before .before .before .before .before .alone in
+    let h = skims-fits k (u .result) (c .before .before .before .before .before .before .before .before .has-room .ensures) (not-false (c .before .before .before .before .before .before .before .before .has-room .result) (c .before .before .before .before .before .before .before .if2 .left)) in
+    let a = alone-stands _ (rw rest-from at (u .ensures)) (h .0) in
     let p = c .before .before .before .before .put-piece .ensures in
-    let s = skims-alone k (u .alone .result) (omega (arith, f .before .if4 .left)) (omega (arith, f .if5 .left)) a (p .0) (p .1) (p .2) in
+    let s = skims-alone k (u .result) (h .1) (h .2) a (p .0) (p .1) (p .2) in
     s
 
-same-length-11 : tie.Need-same-length-11 Inv-loop μ-loop
-same-length-11 c = skims-room (c .before .loop .inv) .0
+same-length-5 : tie.Need-same-length-5 Inv-loop μ-loop
+same-length-5 c = skims-room (c .before .loop .inv) .0
 
-same-length-12 : tie.Need-same-length-12 Inv-loop μ-loop
-same-length-12 c = skims-room (c .before .loop .inv) .1
+same-length-6 : tie.Need-same-length-6 Inv-loop μ-loop
+same-length-6 c = skims-room (c .before .loop .inv) .1
 
-returns-6 : tie.Need-returns-6 Inv-loop μ-loop
-returns-6 c = c .before .loop .inv
+returns-3 : tie.Need-returns-3 Inv-loop μ-loop
+returns-3 c = c .before .loop .inv
 
 pub skim-spec : {M : Type 1} → statement M
 skim-spec =
@@ -267,39 +187,29 @@ skim-spec =
     Inv-loop
     μ-loop
     loop-holds
-    sub-if1
+    sub-lacks-room
+    sub-lacks-room-2
+    lacks-room-requires
     same-length
     same-length-2
     returns
-    sub-if2
-    same-length-3
-    same-length-4
-    returns-2
     copy-run-requires
     sub-alone
     part-alone-start
     part-alone-end
     alone-requires
-    same-length-5
-    same-length-6
-    returns-3
-    sub-if4
-    add-if4
-    same-length-7
-    same-length-8
-    returns-4
-    sub-if5
-    mul-if5
-    add-if5
-    same-length-9
-    same-length-10
-    returns-5
+    sub-has-room
+    sub-has-room-2
+    has-room-requires
+    same-length-3
+    same-length-4
+    returns-2
     cast-put-piece
     add-put-piece
     put-piece-requires
     add-at
     loop-less
     loop-again
-    same-length-11
-    same-length-12
-    returns-6)
+    same-length-5
+    same-length-6
+    returns-3)

@@ -5,9 +5,8 @@ use Rattle.standard.specs.Errors.{placed}
 use Rattle.decoder.specs.Machine.{HexBegin, Numeric}
 use Rattle.decoder.specs.Stream.{storeOf, markOf, kindOf}
 use Rattle.decoder.proofs.TurnLaws.{
-  ascii-is,
-  ascii-not,
-  ascii-own,
+  ascii-x,
+  ascii-x-own,
   ascii-digit,
   ascii-no-digit,
   alone-read,
@@ -35,28 +34,10 @@ returns c =
     let a = d .before .before .args in
     let stored = d .before .before .pre in
     let is = d .before .ascii .ensures in
-    rw (ascii-is 0x78 (omega arith) (a .c) is (d .if1 .taken))
+    rw (ascii-x (a .c) is (d .if1 .taken))
     (turns-absorbed stored (a .p) (HexBegin (a .held .place) (a .c)) (c .absorbed .ensures) refl
     (hold-is stored (HexBegin (a .held .place) (a .c)) _ (c .before .hold .ensures) (omega arith)
-    (rw (ascii-own 0x78 (omega arith) (a .c) is (d .if1 .taken)))))
-
-hold-requires-2 : tie.Need-hold-requires-2
-hold-requires-2 c κs = search needs
-
-absorbed-requires-2 : tie.Need-absorbed-requires-2
-absorbed-requires-2 c κs = search needs
-
-returns-2 : tie.Need-returns-2
-unfolding storeOf markOf kindOf
-returns-2 c =
-    let d = c .before .before in
-    let a = d .before .before .before .args in
-    let stored = d .before .before .before .pre in
-    let is = d .before .before .ascii .ensures in
-    rw (ascii-not 0x78 (omega arith) (a .c) is (d .before .if1 .left), ascii-is 0x58 (omega arith) (a .c) is (d .if2 .taken))
-    (turns-absorbed stored (a .p) (HexBegin (a .held .place) (a .c)) (c .absorbed2 .ensures) refl
-    (hold-is stored (HexBegin (a .held .place) (a .c)) _ (c .before .hold2 .ensures) (omega arith)
-    (rw (ascii-own 0x58 (omega arith) (a .c) is (d .if2 .taken)))))
+    (rw (ascii-x-own (a .c) is (d .if1 .taken)))))
 
 digit-of-requires : tie.Need-digit-of-requires
 digit-of-requires c κs = search needs
@@ -64,24 +45,23 @@ digit-of-requires c κs = search needs
 numeric-requires : tie.Need-numeric-requires
 numeric-requires c κs = search needs
 
-absorbed-requires-3 : tie.Need-absorbed-requires-3
-absorbed-requires-3 c κs = search needs
+absorbed-requires-2 : tie.Need-absorbed-requires-2
+absorbed-requires-2 c κs = search needs
 
-returns-3 : tie.Need-returns-3
+returns-2 : tie.Need-returns-2
 unfolding storeOf markOf kindOf
-returns-3 c =
+returns-2 c =
     let d = c .before .before .before in
-    let e = d .before .before .before in
+    let e = d .before .before in
     let a = e .before .args in
     let is = e .ascii .ensures in
-    let digit = ascii-digit 10 (omega arith) (a .c) is (d .digit-of .ensures) (c .before .before .if3 .taken) in
+    let digit = ascii-digit 10 (omega arith) (a .c) is (d .digit-of .ensures) (c .before .before .if2 .taken) in
     rw (
-      ascii-not 0x78 (omega arith) (a .c) is (d .before .before .if1 .left),
-      ascii-not 0x58 (omega arith) (a .c) is (d .before .if2 .left),
+      ascii-x (a .c) is (d .before .if1 .left),
       digit .0,
       digit .1,
     )
-    (turns-absorbed (e .before .pre) (a .p) (Numeric (a .held .place) _ 10 _) (c .absorbed3 .ensures) refl
+    (turns-absorbed (e .before .pre) (a .p) (Numeric (a .held .place) _ 10 _) (c .absorbed2 .ensures) refl
     (numeric-is (e .before .pre) (Numeric (a .held .place) _ 10 _) (c .before .numeric .ensures) refl))
 
 one-requires : tie.Need-one-requires
@@ -90,17 +70,16 @@ one-requires c κs = search needs
 turn-data-requires : tie.Need-turn-data-requires
 turn-data-requires c κs = search needs
 
-returns-4 : tie.Need-returns-4
+returns-3 : tie.Need-returns-3
 unfolding placed
-returns-4 c =
+returns-3 c =
     let d = c .before .before .before in
-    let e = d .before .before .before in
+    let e = d .before .before in
     let a = e .before .args in
     let is = e .ascii .ensures in
     rw (
-      ascii-not 0x78 (omega arith) (a .c) is (d .before .before .if1 .left),
-      ascii-not 0x58 (omega arith) (a .c) is (d .before .if2 .left),
-      ascii-no-digit 10 (omega arith) (a .c) is (d .digit-of .ensures) (c .before .before .if3 .left),
+      ascii-x (a .c) is (d .before .if1 .left),
+      ascii-no-digit 10 (omega arith) (a .c) is (d .digit-of .ensures) (c .before .before .if2 .left),
     )
     (turns (e .before .pre) (c .turn-data .ensures) (c .before .one .ensures) (alone-read _ 1 _) (omega arith))
 
@@ -112,13 +91,10 @@ turn-octothorpe-spec =
     hold-requires
     absorbed-requires
     returns
-    hold-requires-2
-    absorbed-requires-2
-    returns-2
     digit-of-requires
     numeric-requires
-    absorbed-requires-3
-    returns-3
+    absorbed-requires-2
+    returns-2
     one-requires
     turn-data-requires
-    returns-4)
+    returns-3)

@@ -1,20 +1,16 @@
 use Prim.Native.Nat.{_-_}
-use mathlib.Core.Path.{_≡_, sym, _∙_}
-use mathlib.Core.Bool.{true}
-use mathlib.Core.Logic.{inl, inr}
+use mathlib.Core.Path.{_≡_, refl, sym}
 use native.Mathlib.Omega.{arith}
 use lib.ListN.{length}
 use lib.Seq.{length-take-le}
-use borrow.Author.Tests.{not-true, not-false}
 use borrow.Author.Needs.{needs}
-use Rattle.standard.specs.NameList.{builtin}
-use Rattle.decoder.specs.Stream.{isOpen, fedOf}
+use Rattle.decoder.specs.Stream.{fedOf}
 use Rattle.decoder.proofs.Returns.{
   opened,
   same-state,
   is-fit,
-  end-closed,
-  end-room,
+  accepted,
+  end-refused,
   end-inside,
   end-done,
   feeds-nothing,
@@ -32,69 +28,41 @@ slice-aggregate-is-open c = search needs
 is-open-requires : tie.Need-is-open-requires
 is-open-requires c κs = search needs
 
+refusal-requires : tie.Need-refusal-requires
+refusal-requires c κs = search needs
+
 refused-requires : tie.Need-refused-requires
 refused-requires c κs = search needs
 
 returns : tie.Need-returns
 returns c =
-    let i = c .before .before .is-open in
-    feeds-nothing (end-closed _ _ _ (sym (i .ensures) ∙ not-true (i .result) (c .before .if1 .taken))) (c .refused .ensures)
+    feeds-nothing (end-refused _ _ _ _ (c .before .before .before .is-open .ensures) (c .before .before .refusal .ensures) refl (c .before .if1 .taken)) (c .refused .ensures)
 
-refused-requires-2 : tie.Need-refused-requires-2
-refused-requires-2 c κs = search needs
+cast-t18 : tie.Need-cast-t18
+cast-t18 c =
+    let i = c .before .before .before in
+    let a = accepted _ _ _ _ (i .before .before .is-open .ensures) (i .before .refusal .ensures) (i .if1 .left) in
+    omega (arith, opened _ (a .is-open) .part)
 
-returns-2 : tie.Need-returns-2
-returns-2 c =
-    let f = c .before .before in
-    let i = f .before in
-    let a = i .before .before .before .before .before in
-    let o : isOpen builtin (a .args .self) ≡ true = sym (i .is-open .ensures) ∙ not-false (i .is-open .result) (f .if1 .left) in
-    feeds-nothing (end-room _ _ _ o (inl (c .before .if2 .taken))) (c .refused2 .ensures)
-
-refused-requires-3 : tie.Need-refused-requires-3
-refused-requires-3 c κs = search needs
-
-returns-3 : tie.Need-returns-3
-returns-3 c =
-    let f = c .before .before .before in
-    let i = f .before in
-    let a = i .before .before .before .before .before in
-    let o : isOpen builtin (a .args .self) ≡ true = sym (i .is-open .ensures) ∙ not-false (i .is-open .result) (f .if1 .left) in
-    feeds-nothing (end-room _ _ _ o (inr (c .before .if3 .taken))) (c .refused3 .ensures)
-
-cast-t16 : tie.Need-cast-t16
-cast-t16 c =
-    let f = c .before .before .before .before .before in
-    let i = f .before in
-    let a = i .before .before .before .before .before in
-    let p = opened (a .args .self) (sym (i .is-open .ensures) ∙ not-false (i .is-open .result) (f .if1 .left)) in
-    omega (arith, p .part)
-
-sub-t17 : tie.Need-sub-t17
-sub-t17 c =
-    let f = c .before .before .before .before .before in
-    let i = f .before in
-    let a = i .before .before .before .before .before in
-    let p = opened (a .args .self) (sym (i .is-open .ensures) ∙ not-false (i .is-open .result) (f .if1 .left)) in
-    omega (arith, p .were)
+sub-t19 : tie.Need-sub-t19
+sub-t19 c =
+    let i = c .before .before .before in
+    let a = accepted _ _ _ _ (i .before .before .is-open .ensures) (i .before .refusal .ensures) (i .if1 .left) in
+    omega (arith, opened _ (a .is-open) .were)
 
 closed-requires : tie.Need-closed-requires
 closed-requires c κs = search needs
 
-returns-4 : tie.Need-returns-4
+returns-2 : tie.Need-returns-2
 unfolding fedOf
-returns-4 c =
-    let a = c .before .before .before .before .before .before .before .before .before .before .before .before in
-    let r = a .args .self in
-    let n : length (r .part) ≡ 3 = search (needs, a .good) in
-    let k = c .before .before in
-    let h = k .before .before in
-    let g = h .before in
-    let f = g .before in
-    let i = f .before in
-    let o : isOpen builtin r ≡ true = sym (i .is-open .ensures) ∙ not-false (i .is-open .result) (f .if1 .left) in
-    let m = length-take-le (r .«part_count») (r .part) (omega (arith, opened r o .part)) in
-    feeds-nothing (end-inside _ _ _ o (g .if2 .left) (h .if3 .left) (k .if4 .taken)) (λ j. record {
+returns-2 c =
+    let s = c .before .before .before .before .before .before .before .before .before .before .before in
+    let r = s .args .self in
+    let n : length (r .part) ≡ 3 = search (needs, s .good) in
+    let i = c .before .before .before .before in
+    let a = accepted r _ _ _ (i .before .before .is-open .ensures) (i .before .refusal .ensures) (i .if1 .left) in
+    let m = length-take-le (r .«part_count») (r .part) (omega (arith, opened r (a .is-open) .part)) in
+    feeds-nothing (end-inside _ _ _ (a .is-open) (a .text-room) (a .errors-room) (c .before .before .if2 .taken)) (λ j. record {
       answer = 1;
       taken = 0;
       text = 0;
@@ -105,10 +73,9 @@ returns-4 c =
 
 canonical-requires : tie.Need-canonical-requires
 canonical-requires c κs =
-    let f = c .before .before .before .before .before in
-    let i = f .before in
-    let a = i .before .before .before .before .before in
-    let p = opened (a .args .self) (sym (i .is-open .ensures) ∙ not-false (i .is-open .result) (f .if1 .left)) in
+    let i = c .before .before .before in
+    let a = accepted _ _ _ _ (i .before .before .is-open .ensures) (i .before .refusal .ensures) (i .if1 .left) in
+    let p = opened _ (a .is-open) in
     (p .count, p .stored)
 
 slice-aggregate-put-last : tie.Need-slice-aggregate-put-last
@@ -116,32 +83,16 @@ slice-aggregate-put-last c = search needs
 
 put-last-requires : tie.Need-put-last-requires
 put-last-requires c κs =
-    let k = c .before .before .before in
-    let f = k .before .before .before .before .before .before in
-    let i = f .before in
-    let a = i .before .before .before .before .before in
-    let p = opened (a .args .self) (sym (i .is-open .ensures) ∙ not-false (i .is-open .result) (f .if1 .left)) in
-    (search needs, is-fit (a .args .self .held) (p .stored) (k .canonical .ensures), search needs, search needs)
+    let i = c .before .before .before .before .before .before .before in
+    let r = i .before .before .before .before .before .before .before .args .self in
+    let a = accepted r _ _ _ (i .before .before .is-open .ensures) (i .before .refusal .ensures) (i .if1 .left) in
+    (search needs, is-fit (r .held) (opened r (a .is-open) .stored) (c .before .before .before .canonical .ensures), a .text-room, a .errors-room)
 
-cast-t25 : tie.Need-cast-t25
-cast-t25 c =
-    let w = c .before .before .before .before .before in
-    let k = w .before .before .before .before in
-    let f = k .before .before .before .before .before .before in
-    let i = f .before in
-    let a = i .before .before .before .before .before in
-    let p = opened (a .args .self) (sym (i .is-open .ensures) ∙ not-false (i .is-open .result) (f .if1 .left)) in
-    omega (arith, w .put-last .ensures .1, w .put-last .ensures .2)
+cast-t27 : tie.Need-cast-t27
+cast-t27 c = let w = c .before .before .before .before .before .put-last .ensures in omega (arith, w .1, w .2)
 
-cast-t26 : tie.Need-cast-t26
-cast-t26 c =
-    let w = c .before .before .before .before .before .before in
-    let k = w .before .before .before .before in
-    let f = k .before .before .before .before .before .before in
-    let i = f .before in
-    let a = i .before .before .before .before .before in
-    let p = opened (a .args .self) (sym (i .is-open .ensures) ∙ not-false (i .is-open .result) (f .if1 .left)) in
-    omega (arith, w .put-last .ensures .1, w .put-last .ensures .2)
+cast-t28 : tie.Need-cast-t28
+cast-t28 c = let w = c .before .before .before .before .before .before .put-last .ensures in omega (arith, w .1, w .2)
 
 closed-requires-2 : tie.Need-closed-requires-2
 closed-requires-2 c κs = search needs
@@ -152,19 +103,15 @@ same-length c = search needs
 same-length-2 : tie.Need-same-length-2
 same-length-2 c = search needs
 
-returns-5 : tie.Need-returns-5
-returns-5 c =
+returns-3 : tie.Need-returns-3
+returns-3 c =
     let w = c .before .before .before .before .before .before .before in
     let k = w .before .before .before .before in
-    let m = k .before .before in
-    let h = m .before .before in
-    let g = h .before in
-    let f = g .before in
-    let i = f .before in
-    let a = i .before .before .before .before .before in
-    let o : isOpen builtin (a .args .self) ≡ true = sym (i .is-open .ensures) ∙ not-false (i .is-open .result) (f .if1 .left) in
-    let e = same-state (a .args .self .held) (opened (a .args .self) o .stored) (k .canonical .ensures) in
-    rw (end-done _ _ _ o (g .if2 .left) (h .if3 .left) (m .if4 .left))
+    let i = k .before .before .before .before in
+    let r = i .before .before .before .before .before .before .before .args .self in
+    let a = accepted r _ _ _ (i .before .before .is-open .ensures) (i .before .refusal .ensures) (i .if1 .left) in
+    let e = same-state (r .held) (opened r (a .is-open) .stored) (k .canonical .ensures) in
+    rw (end-done _ _ _ (a .is-open) (a .text-room) (a .errors-room) (k .before .before .if2 .left))
     (wrote-feeds (rw e at (w .put-last .ensures .0)) (rw (c .closed2 .ensures)))
 
 pub end-spec : {M : Type 1} → statement M
@@ -174,22 +121,19 @@ end-spec =
     builtin-names-requires
     slice-aggregate-is-open
     is-open-requires
+    refusal-requires
     refused-requires
     returns
-    refused-requires-2
-    returns-2
-    refused-requires-3
-    returns-3
-    cast-t16
-    sub-t17
+    cast-t18
+    sub-t19
     closed-requires
-    returns-4
+    returns-2
     canonical-requires
     slice-aggregate-put-last
     put-last-requires
-    cast-t25
-    cast-t26
+    cast-t27
+    cast-t28
     closed-requires-2
     same-length
     same-length-2
-    returns-5)
+    returns-3)
