@@ -129,23 +129,12 @@ pub(crate) fn is_open(table: &[u8], stream: Stream) -> bool
 {
     let held = stream.held;
     let part = stream.part;
-    if 32 < held.count {
+    let within = (held.count <= 32) & (stream.part_count <= 3) & (stream.taken <= 16777216);
+    if !within {
         return false;
     }
-    if 3 < stream.part_count {
-        return false;
-    }
-    if 16777216 < stream.taken {
-        return false;
-    }
-    if !holds(table, held) {
-        return false;
-    }
-    if !is_part(part, stream.part_count) {
-        return false;
-    }
-    if stream.taken < held.place {
-        return false;
-    }
-    held.count + stream.part_count <= stream.taken as usize
+    let stored = holds(table, held);
+    let begun = is_part(part, stream.part_count);
+    let were = held.count + stream.part_count <= stream.taken as usize;
+    stored & begun & (held.place <= stream.taken) & were
 }
