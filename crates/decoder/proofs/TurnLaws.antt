@@ -53,7 +53,7 @@ pub ascii-letter : (c : ℕ) {b : ℕ} {r t : Bool} → b ≡ asciiOf c → r �
 ascii-letter c is read e = sym (read ∙ ap alphanumeric is ∙ ascii-test alphanumeric alphanumeric-ascii c) ∙ e
 
 -- A character whose byte is an ASCII byte is that byte.
-pub ascii-own : (k : ℕ) → k < 0x80 → (c : ℕ) {b : ℕ} → b ≡ asciiOf c → b ≡ k → c ≡ b
+ascii-own : (k : ℕ) → k < 0x80 → (c : ℕ) {b : ℕ} → b ≡ asciiOf c → b ≡ k → c ≡ b
 ascii-own k few c is e = eqb-true c k (ascii-is k few c is e) ∙ sym e
 
 -- A character is `x` or `X` where its byte b is, and it is that byte.

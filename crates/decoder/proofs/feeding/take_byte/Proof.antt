@@ -1,8 +1,8 @@
 use Prim.Native.Nat.{ℕ, _+_}
-use mathlib.Core.Path.{_≡_, sym, _∙_, ap}
+use mathlib.Core.Path.{sym, _∙_, ap}
 use mathlib.Core.List.{List, [], _∷_, _++_}
 use native.Mathlib.Omega.{arith}
-use lib.ListN.{length, take, length-take, length-set, length-append}
+use lib.ListN.{take, length-take, length-set, length-append}
 use borrow.Author.Needs.{needs}
 use Rattle.standard.specs.Utf8.{readChar}
 use Rattle.standard.proofs.Utf8.{end-length}
