@@ -149,11 +149,11 @@ def command(program):
 
 
 def built(name):
-    """A program of this repository."""
-    program = ROOT / "target" / "bin" / name
-    if not program.exists():
-        stop(f"target/bin/{name} is missing: rt check {name}")
-    return program
+    """A program of this repository, proved and built anew where it has changed."""
+    said = subprocess.run(["rt", "check", name], cwd=ROOT, capture_output=True, text=True)
+    if said.returncode:
+        stop(f"rt check {name} failed:\n{said.stdout[-2000:]}")
+    return ROOT / "target" / "bin" / name
 
 
 def exports():

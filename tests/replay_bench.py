@@ -10,10 +10,10 @@ writes to that folder stdin, the inputs to be replayed, and stdout, what is writ
     input    n, then n bytes: 2 + n bytes, n little-endian
     output   a line with the length of the report, and the report
 
-    python3 tests/replay_bench.py PROGRAM
+    python3 tests/replay_bench.py COMMAND..
 
 runs a built bench program on every input instead, once with the whole input at hand and, for some, byte by byte through a pipe, and
-compares what it writes.
+compares what it writes. The command is the program, with what starts it before it where the machine needs that: an emulator, a loader.
 """
 
 import struct
@@ -114,13 +114,13 @@ def write_files(folder, inputs):
     print(f"{len(inputs)} inputs, stdin {len(stdin)} bytes, stdout {len(stdout)} bytes")
 
 
-def run_program(program, inputs):
+def run_program(command, inputs):
     """Run a built program on every input; short inputs also come byte by byte."""
     pieces = 0
     for data in inputs:
-        assert subprocess.run([program], input=data, stdout=subprocess.PIPE, check=True).stdout == report(data), data
+        assert subprocess.run(command, input=data, stdout=subprocess.PIPE, check=True).stdout == report(data), data
         if len(data) < 40:
-            with subprocess.Popen([program], stdin=subprocess.PIPE, stdout=subprocess.PIPE, bufsize=0) as process:
+            with subprocess.Popen(command, stdin=subprocess.PIPE, stdout=subprocess.PIPE, bufsize=0) as process:
                 for byte in data:
                     process.stdin.write(bytes([byte]))
                 process.stdin.close()
@@ -131,15 +131,15 @@ def run_program(program, inputs):
 
 def main():
     """Check the model, then write the files or run the program."""
-    if len(sys.argv) != 2:
-        sys.exit("usage: python3 tests/replay_bench.py crates/replay_bench | PROGRAM")
+    if len(sys.argv) < 2:
+        sys.exit("usage: python3 tests/replay_bench.py crates/replay_bench | COMMAND..")
     check_names()
     check_examples()
     check_report()
     target = Path(sys.argv[1])
     inputs = list(dict.fromkeys(all_inputs()))
     if target.is_file():
-        run_program(target.resolve(), inputs)
+        run_program([target.resolve(), *sys.argv[2:]], inputs)
     else:
         write_files(target, inputs)
 

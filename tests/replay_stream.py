@@ -7,7 +7,7 @@ the same way. Only the standard library is needed.
     python3 tests/replay_stream.py FOLDER
 
 writes to that folder stdin, a list of records to be replayed, and stdout, one line for each. They are the second part of those of crates/replay,
-where `cat` puts the parts together; tests/replay does all of it.
+where the parts stand one after the other; tests/replay does all of it.
 
     list     the letter S, how many bytes the records have (4 bytes, little-endian), and the records
     record   kind, text room, error room, fill, n, m: 1 + 4 + 4 + 4 + 2 + 2 bytes, numbers little-endian; then m bytes; then n bytes.

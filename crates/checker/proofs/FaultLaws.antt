@@ -26,7 +26,7 @@ use Rattle.standard.proofs.Skips.{rest-from}
 use Rattle.standard.proofs.Utf8.{read-length, end-length}
 use Rattle.standard.proofs.Ascii.{read-ascii}
 use Rattle.standard.proofs.Looking.{Looking, looking-stops, looking-on}
-use Rattle.checker.specs.Runs.{endOf, quiet, Quiet}
+use Rattle.checker.specs.Runs.{endByte, quiet, Quiet}
 
 -- A stop that is known, by its parts.
 pub stop-is : {r : Stop} (answer place : ℕ) → r ≡ stops answer place → (answer ≡ r .answer) × (place ≡ r .place)
@@ -70,23 +70,23 @@ module _ (context : Context) {s : List ℕ} {at : ℕ} (l : Looking (callsFor co
     fault-size = read-length (drop at s) value n (read-is ∙ char) .0
 
 -- A quiet byte is ASCII and calls for nothing.
-quiet-calls : (context : Context) (b : ℕ) → quiet (endOf context) b ≡ true → (b < 0x80) × (callsFor context b ≡ done)
+quiet-calls : (context : Context) (b : ℕ) → quiet (endByte context) b ≡ true → (b < 0x80) × (callsFor context b ≡ done)
 quiet-calls context b e =
-    let w = and-true (between 0x1 0x7F b) (not (eqb b (endOf context))) e in
+    let w = and-true (between 0x1 0x7F b) (not (eqb b (endByte context))) e in
     let h = between-true 0x1 0x7F b (w .0) in
-    (omega arith, rw (ne-eqb b 0 (λ z. omega arith), ends-is context) (rw (not-true (eqb b (endOf context)) (w .1)) refl))
+    (omega arith, rw (ne-eqb b 0 (λ z. omega arith), ends-is context) (rw (not-true (eqb b (endByte context)) (w .1)) refl))
   where
-    ends-is : (context : Context) → ends context b ≡ eqb b (endOf context)
+    ends-is : (context : Context) → ends context b ≡ eqb b (endByte context)
     ends-is Text = refl
     ends-is Attribute = refl
 
 -- Quiet bytes are passed.
 pub looking-run : (context : Context) {s : List ℕ} {at : ℕ} → Looking (callsFor context) s at → (to : ℕ) → at ≤ to → to ≤ length s
-    → Quiet (endOf context) s at (to - at) → Looking (callsFor context) s to
+    → Quiet (endByte context) s at (to - at) → Looking (callsFor context) s to
 looking-run context {s} {at} l to h there quiets =
     let all : at + (to - at) ≡ to = omega arith in rw all at (go (to - at) (omega arith) quiets)
   where
-    go : (n : ℕ) → at + n ≤ length s → Quiet (endOf context) s at n → Looking (callsFor context) s (at + n)
+    go : (n : ℕ) → at + n ≤ length s → Quiet (endByte context) s at n → Looking (callsFor context) s (at + n)
     go zero k q = let same : at + 0 ≡ at = omega arith in rw same l
     go (suc n) k q =
         let b : ℕ = getD s (at + n) 0 in

@@ -11,9 +11,9 @@ use Rattle.standard.specs.declared.Context.{Context}
 use Rattle.standard.specs.declared.Context.the-variants.{Text, Attribute}
 
 -- The character before which a source ends.
-abbrev pub endOf : Context → ℕ
-endOf Text = code "<"
-endOf Attribute = code "\""
+abbrev pub endByte : Context → ℕ
+endByte Text = code "<"
+endByte Attribute = code "\""
 
 -- A byte that is a character of its own and stops no reading: ASCII but NUL and the end.
 abbrev pub quiet : ℕ → ℕ → Bool

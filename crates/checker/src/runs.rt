@@ -9,7 +9,7 @@ use standard::Context;
 
 // The byte before which a source ends.
 fn end_of(context: Context) -> u8
-    ensures { λ r. ⌜ r ≡ spec.endOf context ⌝ }
+    ensures { λ r. ⌜ r ≡ spec.endByte context ⌝ }
 {
     match context {
         Context::Text => b'<',
@@ -58,7 +58,7 @@ fn quiet_bytes(s: &[u8], from: usize, end: u8) -> usize
 // The same, in blocks as long as they are quiet.
 pub(crate) fn quiet_run(context: Context, s: &[u8], from: usize) -> usize
     requires { ⌜ from ≤ length (now s) ⌝ }
-    ensures { λ r. ⌜ (from ≤ r) × (r ≤ length (now (s .entry))) × spec.Quiet (spec.endOf context) (now (s .entry)) from (r - from) ⌝ }
+    ensures { λ r. ⌜ (from ≤ r) × (r ≤ length (now (s .entry))) × spec.Quiet (spec.endByte context) (now (s .entry)) from (r - from) ⌝ }
 {
     let end = end_of(context);
     let mut at = from;

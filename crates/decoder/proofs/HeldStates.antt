@@ -3,14 +3,13 @@ use Prim.Native.Nat.{ℕ, _-_, _≤_}
 use Prim.Native.Char.{code}
 use mathlib.Core.Path.{_≡_, refl, sym, _∙_, ap, subst}
 use mathlib.Core.List.{List, [], _∷_, _++_, append-assoc, append-nil}
-use mathlib.Core.Bool.{Bool, true, false, _||_}
+use mathlib.Core.Bool.{Bool, true, false}
 use native.Mathlib.Omega.{arith}
 use lib.Dec.{eqb}
-use lib.ListN.{length, getD, drop, List·getD-append}
-use lib.Seq.{drop-append-le}
+use lib.ListN.{length, drop}
 use borrow.Author.Tests.{eqb-true, le-ltb}
 use Rattle.lists.specs.Notation.{if_then_else_, next, nextIs, every}
-use Rattle.lists.proofs.Choice.{facts, no-way, if-both}
+use Rattle.lists.proofs.Choice.{no-way, if-both}
 use Rattle.standard.specs.declared.Context.{Context}
 use Rattle.standard.specs.declared.names.Found.{Found}
 use Rattle.standard.specs.Errors.{listed, placed}
@@ -49,6 +48,7 @@ use Rattle.decoder.specs.Machine.{
   finish,
 }
 use Rattle.decoder.proofs.Looks.{alphanumeric-ascii, digit-ascii, equal-ascii, is-x-ascii}
+use Rattle.decoder.proofs.Means.{named-near}
 use Rattle.decoder.proofs.Tidy.{Tidy, Alphanumerics, goes-on}
 use Rattle.decoder.proofs.Unfolding.{all-append}
 use Rattle.decoder.proofs.Layer.{Own, one, several, own-byte, own-fails}
@@ -304,24 +304,7 @@ module _ (names : List Name) (context : Context) (tidy : Tidy names) where
   -- What is next after a name that is held is `&` or nothing: it makes the same of its bytes.
   named-last : (found : Found) (h : List ℕ) → eqb (found .len) 0 ≡ false → found .len ≤ length h
       → namedBy context found (h ++ code "&" ∷ []) ≡ namedBy context found (h ++ [])
-  unfolding namedBy
-  named-last found h e fits =
-      rw (
-        e,
-        last (code "&" ∷ []),
-        last [],
-        drop-append-le (found .len) h (code "&" ∷ []) fits,
-        drop-append-le (found .len) h [] fits,
-        near (drop (found .len) h),
-      )
-    where
-      last : (l : List ℕ) → getD (h ++ l) (found .len - 1) 0 ≡ getD h (found .len - 1) 0
-      last l = List·getD-append h l 0 (found .len - 1) (omega facts)
-
-      near : (h : List ℕ) → nextIs (λ c. eqb c (code "=") || alphanumeric c) (h ++ code "&" ∷ [])
-          ≡ nextIs (λ c. eqb c (code "=") || alphanumeric c) (h ++ [])
-      near [] = refl
-      near (x ∷ h) = refl
+  named-last found h e fits = named-near context found h (code "&" ∷ []) [] e fits refl
 
   -- An `&` settles a name as the end does.
   named-ampersand : (q p : ℕ) (h : List ℕ) → Alphanumerics h

@@ -21,7 +21,24 @@ use Rattle.standard.proofs.Narrow.{longest-fits}
 use Rattle.standard.proofs.Joining.{⊕-none}
 use Rattle.standard.proofs.Skips.{drop-pred}
 use Rattle.standard.proofs.Utf8.{read-length, end-length}
-use Rattle.decoder.specs.Machine.{St, Data, AfterCr, Begin, Octothorpe, HexBegin, Numeric, Named, BogusName, plain, noDigits, finishNumeric, finishNamed, finish, Step, step}
+use Rattle.decoder.specs.Machine.{
+  St,
+  Data,
+  AfterCr,
+  Begin,
+  Octothorpe,
+  HexBegin,
+  Numeric,
+  Named,
+  BogusName,
+  plain,
+  noDigits,
+  finishNumeric,
+  finishNamed,
+  finish,
+  Step,
+  step,
+}
 use Rattle.decoder.proofs.Running.{stepRead, runFrom, run}
 use Rattle.decoder.proofs.Looks.{looks, reference-plain, x-plain}
 use Rattle.decoder.proofs.Tidy.{Tidy, Alphanumerics, next-held}

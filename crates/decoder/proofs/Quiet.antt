@@ -15,7 +15,7 @@ use Rattle.standard.specs.Contexts.{ends}
 use Rattle.standard.specs.Answers.{done, context-end}
 use Rattle.standard.specs.Reading.{callsFor}
 use Rattle.standard.proofs.Ascii.{Plain, plain-printable, plain-blank}
-use Rattle.decoder.specs.Runs.{standing, plain, endOf, ordinary}
+use Rattle.decoder.specs.Runs.{standing, plain, endByte, ordinary}
 
 -- A byte that stands for itself does so without an error.
 pub standing-is : (b : ℕ) → standing b ≡ true → Plain b
@@ -29,30 +29,30 @@ pub plain-is : (end b : ℕ) → plain end b ≡ true → Plain b
 plain-is end b e = standing-is b (and-true (standing b) (not (eqb b end)) e .0)
 
 -- A source ends before its end.
-ends-is : (context : Context) (b : ℕ) → ends context b ≡ eqb b (endOf context)
+ends-is : (context : Context) (b : ℕ) → ends context b ≡ eqb b (endByte context)
 ends-is Text b = refl
 ends-is Attribute b = refl
 
 -- What a character other than NUL calls for: the context's end, or nothing.
 module _ (context : Context) (c : ℕ) (some : c ≡ 0 → ⊥) where
-  pub calls-end : c ≡ endOf context → callsFor context c ≡ context-end
-  calls-end e = rw (ne-eqb c 0 some, ends-is context c, eq-eqb c (endOf context) e)
+  pub calls-end : c ≡ endByte context → callsFor context c ≡ context-end
+  calls-end e = rw (ne-eqb c 0 some, ends-is context c, eq-eqb c (endByte context) e)
 
-  pub calls-none : (c ≡ endOf context → ⊥) → callsFor context c ≡ done
-  calls-none e = rw (ne-eqb c 0 some, ends-is context c, ne-eqb c (endOf context) e)
+  pub calls-none : (c ≡ endByte context → ⊥) → callsFor context c ≡ done
+  calls-none e = rw (ne-eqb c 0 some, ends-is context c, ne-eqb c (endByte context) e)
 
 -- An ordinary byte is ASCII and calls for nothing.
-pub ordinary-is : (context : Context) (b : ℕ) → ordinary (endOf context) b ≡ true → (b < 0x80) × (callsFor context b ≡ done)
+pub ordinary-is : (context : Context) (b : ℕ) → ordinary (endByte context) b ≡ true → (b < 0x80) × (callsFor context b ≡ done)
 ordinary-is context b e =
-    let w = and-true (between 0x1 0x7F b) (not (eqb b (endOf context))) e in
+    let w = and-true (between 0x1 0x7F b) (not (eqb b (endByte context))) e in
     let h = between-true 0x1 0x7F b (w .0) in
-    (omega arith, calls-none context b (omega arith) (eqb-false b (endOf context) (not-true (eqb b (endOf context)) (w .1))))
+    (omega arith, calls-none context b (omega arith) (eqb-false b (endByte context) (not-true (eqb b (endByte context)) (w .1))))
 
 -- A plain byte is ASCII and calls for nothing.
-pub plain-calls : (context : Context) (b : ℕ) → plain (endOf context) b ≡ true → (b < 0x80) × (callsFor context b ≡ done)
+pub plain-calls : (context : Context) (b : ℕ) → plain (endByte context) b ≡ true → (b < 0x80) × (callsFor context b ≡ done)
 plain-calls context b e =
-    let w = and-true (standing b) (not (eqb b (endOf context))) e in
+    let w = and-true (standing b) (not (eqb b (endByte context))) e in
     let h = standing-is b (w .0) .0 in (
       h,
-      calls-none context b (λ i. no-way (sym (w .0) ∙ ap standing i)) (eqb-false b (endOf context) (not-true (eqb b (endOf context)) (w .1))),
+      calls-none context b (λ i. no-way (sym (w .0) ∙ ap standing i)) (eqb-false b (endByte context) (not-true (eqb b (endByte context)) (w .1))),
     )

@@ -40,7 +40,7 @@ use Rattle.decoder.specs.declared.stream.Held.{Held}
 use Rattle.decoder.specs.declared.stream.Stream.{Stream}
 use Rattle.decoder.specs.Machine.{Data, Step, nothing, stepData, step}
 use Rattle.decoder.specs.Pieces.{pieceOf, oneOf}
-use Rattle.decoder.specs.Runs.{plain, endOf}
+use Rattle.decoder.specs.Runs.{plain, endByte}
 use Rattle.decoder.specs.Stream.{At, atBy, Walked, stopsAt, onward, lacksRoom, walk, isPart, stBy, heldOf, recordOf, atOf}
 use Rattle.decoder.specs.Turns.{Fits}
 use Rattle.decoder.specs.Feeding.{OpenAt, Open, Moves}
@@ -81,13 +81,13 @@ module _ (context : Context) where
       (ap (λ (g : Reading). stopsAt done g (atBy Data [] (p + n))) (⊕-none (reading (take n s) (placed p (listed (characterCode c))))))
 
   -- A run of plain bytes gives itself.
-  walk-plain : (text errors p : ℕ) (l : List ℕ) → every (plain (endOf context)) l ≡ true → length l + 63 ≤ text → 8 ≤ errors
+  walk-plain : (text errors p : ℕ) (l : List ℕ) → every (plain (endByte context)) l ≡ true → length l + 63 ≤ text → 8 ≤ errors
       → walk builtin context text errors (atBy Data [] p) l ≡ stopsAt done (reading l []) (atBy Data [] (p + length l))
   unfolding walk placed
   walk-plain text errors p [] e h k = ap (λ (n : ℕ). stopsAt done nothing (atBy Data [] n)) (omega arith)
   walk-plain text errors p (b ∷ l) e h k =
-      let w = and-true (plain (endOf context) b) (every (plain (endOf context)) l) e in
-      let q = plain-is (endOf context) b (w .0) in
+      let w = and-true (plain (endByte context) b) (every (plain (endByte context)) l) e in
+      let q = plain-is (endByte context) b (w .0) in
       let c = plain-calls context b (w .0) in
       let first =
       walk-alone text errors p b 1 (b ∷ l) (omega arith) k (read-ascii b l (c .0)) (c .1) (q .1) (q .2)
@@ -265,7 +265,7 @@ front-every p (c ∷ s) = go (p c) refl (front-every p s)
 
 -- Plain bytes from at on, of as many as have their room.
 pub run-runs : (context : Context) (s : List ℕ) (at free : ℕ) → at ≤ length s → 64 ≤ free → {limit end : ℕ} → limit ≡ min (length s - at) (free - 63)
-    → end ≡ at + length (front (plain (endOf context)) (drop at (take (at + limit) s))) → Runs context s at free end
+    → end ≡ at + length (front (plain (endByte context)) (drop at (take (at + limit) s))) → Runs context s at free end
 run-runs context s at free there room {limit} {end} limit-is end-is =
     let few = front-length p l in
     let short = length-drop at (take (at + limit) s) in
@@ -277,7 +277,7 @@ run-runs context s at free there room {limit} {end} limit-is end-is =
     }
   where
     p : ℕ → Bool
-    p = plain (endOf context)
+    p = plain (endByte context)
 
     l : List ℕ
     l = drop at (take (at + limit) s)
@@ -330,7 +330,7 @@ reference-passes context b e =
     go false true f g h = (passes-ascii alphanumeric alphanumeric-ascii b g, tt)
     go false false f g h = no-way (sym h)
 
-    end-not : (context : Context) → inReference (endOf context) ≡ false
+    end-not : (context : Context) → inReference (endByte context) ≡ false
     end-not Text = refl
     end-not Attribute = refl
 

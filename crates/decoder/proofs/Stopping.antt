@@ -17,20 +17,20 @@ use Rattle.standard.specs.Reading.{callsFor, answerTo, sizeOf, Stop, stopFrom, 
 use Rattle.standard.proofs.Ascii.{stop-run}
 use Rattle.standard.proofs.Skips.{rest-from}
 use Rattle.standard.proofs.Looking.{Looking, looking-stops, looking-on, size-some}
-use Rattle.decoder.specs.Runs.{endOf, ordinary}
+use Rattle.decoder.specs.Runs.{endByte, ordinary}
 use Rattle.decoder.proofs.Quiet.{ordinary-is}
 
 -- The place after a run of ordinary bytes.
 abbrev runEnd : Context → List ℕ → ℕ → ℕ
-runEnd context s at = at + length (front (ordinary (endOf context)) (drop at s))
+runEnd context s at = at + length (front (ordinary (endByte context)) (drop at s))
 
 module _ (context : Context) {s : List ℕ} {at : ℕ} (l : Looking (callsFor context) s at) where
   pub looking-run : Looking (callsFor context) s (runEnd context s at)
   looking-run = record {
-    there = omega (arith, l .there, front-length (ordinary (endOf context)) (drop at s), length-drop at s);
+    there = omega (arith, l .there, front-length (ordinary (endByte context)) (drop at s), length-drop at s);
     same =
-        l .same ∙ stop-run (callsFor context) (ordinary (endOf context)) (ordinary-is context) (drop at s) at
-        ∙ ap (stopFrom (callsFor context) 0 (runEnd context s at)) (drop-drop (length (front (ordinary (endOf context)) (drop at s))) at s);
+        l .same ∙ stop-run (callsFor context) (ordinary (endByte context)) (ordinary-is context) (drop at s) at
+        ∙ ap (stopFrom (callsFor context) 0 (runEnd context s at)) (drop-drop (length (front (ordinary (endByte context)) (drop at s))) at s);
   }
 
 -- One turn: after a run of ordinary bytes what stands at from is read.

@@ -29,7 +29,7 @@ use Rattle.standard.proofs.Skips.{rest-from}
 use Rattle.rooms.proofs.Fits.{copy-fits, numbers-fit}
 use Rattle.decoder.specs.declared.pieces.Piece.{Piece}
 use Rattle.decoder.specs.Pieces.{pieceOf}
-use Rattle.decoder.specs.Runs.{plain, endOf}
+use Rattle.decoder.specs.Runs.{plain, endByte}
 use Rattle.decoder.proofs.Quiet.{plain-is}
 use Rattle.standard.proofs.PieceSize.{piece-size}
 use Rattle.decoder.proofs.Writing.{by-none, by-text, by-join}
@@ -144,24 +144,24 @@ wrote-through {r} {few = few} {n = n} a h room p =
 module _ {width : ℕ} {lay : List ℕ → List ℕ} (laid : Laying width lay) {context : Context} {s text₀ errors₀ text errors : List ℕ} {at w e : ℕ}
     (room : length s + 64 ≤ length text₀) where
   -- A run ends within the source.
-  pub run-there : {from : ℕ} → Going lay builtin context s text₀ errors₀ at text w errors e → from ≡ at + length (front (plain (endOf context))
+  pub run-there : {from : ℕ} → Going lay builtin context s text₀ errors₀ at text w errors e → from ≡ at + length (front (plain (endByte context))
       (drop at s))
       → from ≤ length s
-  run-there g is = omega (arith, g .there, front-length (plain (endOf context)) (drop at s), length-drop at s)
+  run-there g is = omega (arith, g .there, front-length (plain (endByte context)) (drop at s), length-drop at s)
 
   -- The run from at on is copied, and from is the place after it.
   pub turn-run : {text′ : List ℕ} {w′ from : ℕ} → Going lay builtin context s text₀ errors₀ at text w errors e
-      → from ≡ at + length (front (plain (endOf context)) (drop at s)) → Put text w (take (length text - w) (take (from - at) (drop at s))) text′ w′
+      → from ≡ at + length (front (plain (endByte context)) (drop at s)) → Put text w (take (length text - w) (take (from - at) (drop at s))) text′ w′
       → Going lay builtin context s text₀ errors₀ from text′ w′ errors e
   turn-run {text′} {w′} {from} g is put =
-      let run : List ℕ = front (plain (endOf context)) (drop at s) in
-      let h = front-length (plain (endOf context)) (drop at s) in
+      let run : List ℕ = front (plain (endByte context)) (drop at s) in
+      let h = front-length (plain (endByte context)) (drop at s) in
       let long : from - at ≡ length run = omega arith in
-      let whole : take (from - at) (drop at s) ≡ run = ap (λ (n : ℕ). take n (drop at s)) long ∙ sym (front-is-take (plain (endOf context))
+      let whole : take (from - at) (drop at s) ≡ run = ap (λ (n : ℕ). take n (drop at s)) long ∙ sym (front-is-take (plain (endByte context))
       (drop at s)) in
-      let r = run-room laid g builtin-narrow (plain (endOf context)) (plain-is (endOf context)) in
+      let r = run-room laid g builtin-narrow (plain (endByte context)) (plain-is (endByte context)) in
       let k = going-room laid g builtin-narrow in
-      going-run laid g (plain (endOf context)) (plain-is (endOf context)) from is (omega (arith, g .there, length-drop at s))
+      going-run laid g (plain (endByte context)) (plain-is (endByte context)) from is (omega (arith, g .there, length-drop at s))
       (copy-fits (omega arith) (rw whole at put))
 
   -- A piece at at is written.

@@ -42,6 +42,7 @@ pub record Step : Type 0 where
   pub gives : Reading
   pub next : St
 
+-- A step, given both.
 abbrev pub to : Reading → St → Step
 to gives next = record { gives = gives; next = next }
 
@@ -49,6 +50,7 @@ to gives next = record { gives = gives; next = next }
 abbrev pub after : Reading → Step → Step
 after before step = to (before ⊕ step .gives) (step .next)
 
+-- The reading of nothing.
 abbrev pub nothing : Reading
 nothing = reading [] []
 

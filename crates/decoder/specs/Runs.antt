@@ -16,9 +16,9 @@ abbrev pub plain : ℕ → ℕ → Bool
 plain end b = standing b && not (eqb b end)
 
 -- The character before which a source ends.
-abbrev pub endOf : Context → ℕ
-endOf Text = code "<"
-endOf Attribute = code "\""
+abbrev pub endByte : Context → ℕ
+endByte Text = code "<"
+endByte Attribute = code "\""
 
 -- A byte that is a character of its own and stops no reading: ASCII but NUL and the end.
 abbrev pub ordinary : ℕ → ℕ → Bool

@@ -17,7 +17,7 @@ use Rattle.decoder.specs.Writing.{Wrote}
 use Rattle.decoder.specs.declared.pieces.Piece.{Piece}
 use Rattle.decoder.specs.Machine.{Data}
 use Rattle.decoder.specs.Pieces.{pieceOf, noneOf}
-use Rattle.decoder.specs.Runs.{plain, endOf}
+use Rattle.decoder.specs.Runs.{plain, endByte}
 use Rattle.decoder.specs.Stream.{atBy, stopsAt, walk}
 
 -- The bytes of s from at to end are plain, and before each of them 64 of free bytes are free.
@@ -25,7 +25,7 @@ pub record Runs (context : Context) (s : List ℕ) (at free end : ℕ) : Type 0 
   pub from : at ≤ end
   pub there : end ≤ length s
   pub fits : end + 63 ≤ at + free
-  pub plains : every (plain (endOf context)) (take (end - at) (drop at s)) ≡ true
+  pub plains : every (plain (endByte context)) (take (end - at) (drop at s)) ≡ true
 
 -- A byte that may stand between the `&` and the `;` of a reference.
 abbrev pub inReference : ℕ → Bool

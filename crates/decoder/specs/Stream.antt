@@ -67,6 +67,7 @@ pub record At : Type 0 where
   pub part : List ℕ
   pub taken : ℕ
 
+-- Where a stream is, given the three.
 abbrev pub atBy : St → List ℕ → ℕ → At
 atBy st part taken = record { st = st; part = part; taken = taken }
 
@@ -86,6 +87,7 @@ pub record Move : Type 0 where
   pub gives : Reading
   pub to : At
 
+-- A move, given both.
 abbrev pub moves : Reading → At → Move
 moves gives to = record { gives = gives; to = to }
 
@@ -103,9 +105,11 @@ pub record Walked : Type 0 where
   pub gives : Reading
   pub stop : At
 
+-- A walk's end, given the three.
 abbrev pub stopsAt : ℕ → Reading → At → Walked
 stopsAt answer gives stop = record { answer = answer; gives = gives; stop = stop }
 
+-- A walk, with what was given before it.
 abbrev pub onward : Reading → Walked → Walked
 onward before w = stopsAt (w .answer) (before ⊕ w .gives) (w .stop)
 
@@ -198,6 +202,7 @@ stBy kind.Named q store = Named q (drop 1 store)
 stBy kind.BogusName q store = BogusName q
 stBy kind.Closed q store = Data
 
+-- The state of the machine that is held.
 abbrev pub stOf : Held → St
 stOf h = stBy (h .state) (h .place) (take (h .count) (h .store))
 
@@ -256,6 +261,7 @@ pub record Outcome : Type 0 where
   pub gives : Reading
   pub record′ : Stream
 
+-- An outcome, given its parts.
 abbrev pub outcome : (answer taken place : ℕ) → Reading → Stream → Outcome
 outcome answer taken place gives record′ =
     record { answer = answer; taken = taken; place = place; gives = gives; record′ = record′ }

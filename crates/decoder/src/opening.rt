@@ -123,6 +123,7 @@ fn is_part(part: [u8; 3], count: usize) -> bool
     }
 }
 
+// Whether a record is open: its counts are in bounds, its store and its part are of what it says is held, and so many bytes were taken.
 pub(crate) fn is_open(table: &[u8], stream: Stream) -> bool
     requires { ⌜ now table ≡ tableOf builtin ⌝ }
     ensures { λ r. ⌜ r ≡ spec.isOpen builtin stream ⌝ }
@@ -135,6 +136,6 @@ pub(crate) fn is_open(table: &[u8], stream: Stream) -> bool
     }
     let stored = holds(table, held);
     let begun = is_part(part, stream.part_count);
-    let were = held.count + stream.part_count <= stream.taken as usize;
-    stored & begun & (held.place <= stream.taken) & were
+    let taken = held.count + stream.part_count <= stream.taken as usize;
+    stored & begun & (held.place <= stream.taken) & taken
 }

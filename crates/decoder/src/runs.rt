@@ -9,7 +9,7 @@ use standard::Context;
 
 // The byte before which a source ends.
 pub(crate) fn end_of(context: Context) -> u8
-    ensures { λ r. ⌜ r ≡ spec.endOf context ⌝ }
+    ensures { λ r. ⌜ r ≡ spec.endByte context ⌝ }
 {
     match context {
         Context::Text => b'<',
@@ -59,7 +59,7 @@ fn plain_bytes(s: &[u8], from: usize, end: u8) -> usize
 // The same, in blocks as long as they are plain.
 pub(crate) fn plain_run(s: &[u8], from: usize, context: Context) -> usize
     requires { ⌜ from ≤ length (now s) ⌝ }
-    ensures { λ r. ⌜ r ≡ from + length (front (spec.plain (spec.endOf context)) (drop from (now (s .entry)))) ⌝ }
+    ensures { λ r. ⌜ r ≡ from + length (front (spec.plain (spec.endByte context)) (drop from (now (s .entry)))) ⌝ }
 {
     let end = end_of(context);
     let mut at = from;
@@ -113,7 +113,7 @@ fn ordinary_bytes(s: &[u8], from: usize, end: u8) -> usize
 // The same, in blocks as long as they are ordinary.
 pub(crate) fn ordinary_run(s: &[u8], from: usize, context: Context) -> usize
     requires { ⌜ from ≤ length (now s) ⌝ }
-    ensures { λ r. ⌜ r ≡ from + length (front (spec.ordinary (spec.endOf context)) (drop from (now (s .entry)))) ⌝ }
+    ensures { λ r. ⌜ r ≡ from + length (front (spec.ordinary (spec.endByte context)) (drop from (now (s .entry)))) ⌝ }
 {
     let end = end_of(context);
     let mut at = from;

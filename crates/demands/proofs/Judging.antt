@@ -17,9 +17,50 @@ use Rattle.standard.specs.Names.{stands}
 use Rattle.standard.specs.Pieces.{Piece}
 use Rattle.standard.specs.Reading.{Reading, _⊕_, joined}
 use Rattle.standard.proofs.Joining.{numbers-append, numbers-length}
-use Rattle.checker.specs.Transcript.{Row, row, rowsOf, Left, left, total, reached, wrong, after, spent, verdict, judge, right, no-source, no-piece-end, text-differs, errors-differ, remains}
+use Rattle.checker.specs.Transcript.{
+  Row,
+  row,
+  rowsOf,
+  Left,
+  left,
+  total,
+  reached,
+  wrong,
+  after,
+  spent,
+  verdict,
+  judge,
+  right,
+  no-source,
+  no-piece-end,
+  text-differs,
+  errors-differ,
+  remains,
+}
 use Rattle.checker.proofs.Meetings.{stands-front, front-stands}
-use Rattle.demands.proofs.RightRows.{PieceEnd, TextComes, ErrorsCome, Right, Cuts, none, first, Spent, Good, Remains, FirstWrong, column, Wrong, no-bytes, past, within, no-text, no-errors, together, rowsFor, inThrees}
+use Rattle.demands.proofs.RightRows.{
+  PieceEnd,
+  TextComes,
+  ErrorsCome,
+  Right,
+  Cuts,
+  none,
+  first,
+  Spent,
+  Good,
+  Remains,
+  FirstWrong,
+  column,
+  Wrong,
+  no-bytes,
+  past,
+  within,
+  no-text,
+  no-errors,
+  together,
+  rowsFor,
+  inThrees,
+}
 use Rattle.demands.proofs.Reaching.{Sized, sized-parts, total-append, total-least, reached-front, reached-cut, reached-some, joined-append}
 
 -- A word stands before all that comes after it.

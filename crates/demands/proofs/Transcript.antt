@@ -31,7 +31,21 @@ use Rattle.demands.proofs.Lines.{Line, LineOf}
 use Rattle.demands.proofs.Laws.{rooms-suffice}
 use Rattle.demands.proofs.RightRows.{none, Good, Remains, FirstWrong, together, rowsFor, inThrees, column}
 use Rattle.demands.proofs.Reaching.{Sized, pieces-sized, pieces-some}
-use Rattle.demands.proofs.Judging.{RowsAre, good, first-wrong, remaining, rowNamed, wrong-between, judge-says, some-verdict, cuts-columns, cuts-reads, groups-good, threes-read, threes-length}
+use Rattle.demands.proofs.Judging.{
+  RowsAre,
+  good,
+  first-wrong,
+  remaining,
+  rowNamed,
+  wrong-between,
+  judge-says,
+  some-verdict,
+  cuts-columns,
+  cuts-reads,
+  groups-good,
+  threes-read,
+  threes-length,
+}
 use Rattle.demands.proofs.CheckAnswers as check-answers
 use Rattle.demands.proofs.WholeAnswers as whole-answers
 

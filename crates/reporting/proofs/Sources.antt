@@ -149,7 +149,8 @@ module _ {context : Context} {s out errors out′ errors′ : List ℕ} {r : Dec
 
     -- They are those of the errors.
     numbers-front : take (2 * r .errors) errors′ ≡ numbers (readingOf context s .errors)
-    numbers-front = rw (read .numbers-of) (take-written errors (numbers (readingOf context s .errors)) (2 * r .errors) (sym (read .count)) numbers-fit)
+    numbers-front =
+        rw (read .numbers-of) (take-written errors (numbers (readingOf context s .errors)) (2 * r .errors) (sym (read .count)) numbers-fit)
 
     module _ (word : List ℕ) (place : ℕ) (e : closingLine (stopOf context s) (length s) ≡ line (word ++ decimal place)) where
       -- What stands after the text has room.

@@ -19,7 +19,8 @@ add-own c = let a = c .before .before .before .before .before in omega (arith, p
 
 array-share-prefix-own : tie.Need-array-share-prefix-own
 array-share-prefix-own c =
-    let a = c .before .before .before .before .before in rw (c .with-byte .ensures) (simp length-set (omega (arith, part-long (a .args .«record») (a .pre .1))))
+    let a = c .before .before .before .before .before in
+    rw (c .with-byte .ensures) (simp length-set (omega (arith, part-long (a .args .«record») (a .pre .1))))
 
 slice-aggregate-read-char : tie.Need-slice-aggregate-read-char
 slice-aggregate-read-char c =
@@ -42,7 +43,9 @@ slice-aggregate-keep-byte : tie.Need-slice-aggregate-keep-byte
 slice-aggregate-keep-byte c = search needs
 
 add-keep-byte : tie.Need-add-keep-byte
-add-keep-byte c = let a = c .before .before .before .before .before .before .before .before .before .before in omega (arith, part-long (a .args .«record») (a .pre .1))
+add-keep-byte c =
+    let a = c .before .before .before .before .before .before .before .before .before .before in
+    omega (arith, part-long (a .args .«record») (a .pre .1))
 
 keep-byte-requires : tie.Need-keep-byte-requires
 keep-byte-requires c κs =
@@ -76,7 +79,8 @@ returns c =
     let own = ap (take (r .«part_count» + 1)) (y .with-byte .ensures) ∙ own-list r (a .pre .1) (open-part r (a .pre .1)) (a .args .b) in
     let read = ap readChar (sym own) ∙ sym (d .read-char .ensures) in
     let t = c .before .before .before .before .take-char .ensures in
-    (byte-char r (a .pre .1) (a .args .b) (read ∙ c .before .before .before .before .before .before .before .before .value .given .1) (t .0), t .1, t .2)
+    let v = c .before .before .before .before .before .before .before .before .value .given .1 in
+    (byte-char r (a .pre .1) (a .args .b) (read ∙ v) (t .0), t .1, t .2)
 
 returns-2 : tie.Need-returns-2
 returns-2 c =

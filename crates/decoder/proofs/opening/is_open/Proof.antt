@@ -35,20 +35,21 @@ is-part-requires c κs =
     let r = c .before .before .before .before .before .before .before .before .args .stream in
     limits r (not-false (within r) (c .before .if1 .left)) .1
 
-add-were : tie.Need-add-were
-add-were c =
+add-taken : tie.Need-add-taken
+add-taken c =
     let r = c .before .before .before .before .before .before .before .before .before .before .before .args .stream in
     let l = limits r (not-false (within r) (c .before .before .before .before .if1 .left)) in
     omega (arith, l .0, l .1)
 
-cast-were : tie.Need-cast-were
-cast-were c = search needs
+cast-taken : tie.Need-cast-taken
+cast-taken c = search needs
 
 returns-2 : tie.Need-returns-2
 unfolding isOpen
 returns-2 c =
     let r = c .before .before .before .before .before .before .before .before .before .before .before .before .before .before .args .stream in
-    rw (not-false (within r) (c .before .before .before .before .before .before .before .if1 .left)) (rw (c .before .before .before .before .before .before .holds .ensures, c .before .before .before .before .before .is-part .ensures))
+    let d = c .before .before .before .before .before in
+    rw (not-false (within r) (d .before .before .if1 .left)) (rw (d .before .holds .ensures, d .is-part .ensures))
 
 pub is-open-spec : {M : Type 1} → statement M
 is-open-spec =
@@ -57,6 +58,6 @@ is-open-spec =
     returns
     holds-requires
     is-part-requires
-    add-were
-    cast-were
+    add-taken
+    cast-taken
     returns-2)

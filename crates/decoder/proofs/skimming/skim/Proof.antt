@@ -129,47 +129,37 @@ put-piece-requires c κs =
     let l = r .before .before .before .before .before .loop in
     let room = skims-free (l .inv) (r .before .before .before .lacks-room .ensures) (r .before .before .if1 .left) in
     let k = skims-run (l .inv) _ (room .1) (r .copy-run .ensures .0) (r .copy-run .ensures .1) in
-    let h = skims-fits k (c .before .before .before .before .alone .result) (c .before .before .before .has-room .ensures) (not-false (c .before .before .before .has-room .result) (c .before .before .if2 .left)) in
+    let d = c .before .before in
+    let u = d .before .before .alone .result in
+    let h = skims-fits k u (d .before .has-room .ensures) (not-false (d .before .has-room .result) (d .if2 .left)) in
     (omega (arith, k .text-in, h .1), omega (arith, k .errors-in, h .2))
+
+loop-again : tie.Need-loop-again Inv-loop μ-loop
+loop-again c =
+    let d = c .before .before .before .before .before .before .before in
+    let r = d .before .before .before .before .before .before in
+    let l = r .before .before .before .before .before .loop in
+    let room = skims-free (l .inv) (r .before .before .before .lacks-room .ensures) (r .before .before .if1 .left) in
+    let k = skims-run (l .inv) _ (room .1) (r .copy-run .ensures .0) (r .copy-run .ensures .1) in
+    let u = d .before .before .alone in
+    let h = skims-fits k (u .result) (d .before .has-room .ensures) (not-false (d .before .has-room .result) (d .if2 .left)) in
+    let a = alone-stands _ (rw rest-from at (u .ensures)) (h .0) in
+    let p = c .before .before .before .before .put-piece .ensures in skims-alone k (u .result) (h .1) (h .2) a (p .0) (p .1) (p .2)
 
 add-at : tie.Need-add-at Inv-loop μ-loop
 add-at c =
     let r = c .before .before .before .before .before .before .before .before .before .before .before .before .before in
-    let l = r .before .before .before .before .before .loop in
-    let room = skims-free (l .inv) (r .before .before .before .lacks-room .ensures) (r .before .before .if1 .left) in
-    let k = skims-run (l .inv) _ (room .1) (r .copy-run .ensures .0) (r .copy-run .ensures .1) in
-    let u = c .before .before .before .before .before .before .before .before .before .alone in
-    let h = skims-fits k (u .result) (c .before .before .before .before .before .before .before .before .has-room .ensures) (not-false (c .before .before .before .before .before .before .before .before .has-room .result) (c .before .before .before .before .before .before .before .if2 .left)) in
-    let a = alone-stands _ (rw rest-from at (u .ensures)) (h .0) in
-    let p = c .before .before .before .before .put-piece .ensures in
-    let s = skims-alone k (u .result) (h .1) (h .2) a (p .0) (p .1) (p .2) in
-    omega (arith, s .there, r .before .before .before .before .before .before .before .before .before .before .pre .1)
+    omega (arith, loop-again c .there, r .before .before .before .before .before .before .before .before .before .before .pre .1)
 
 loop-less : tie.Need-loop-less Inv-loop μ-loop
 loop-less c =
-    let r = c .before .before .before .before .before .before .before .before .before .before .before .before .before in
+    let d = c .before .before .before .before .before .before .before in
+    let r = d .before .before .before .before .before .before in
     let l = r .before .before .before .before .before .loop in
     let room = skims-free (l .inv) (r .before .before .before .lacks-room .ensures) (r .before .before .if1 .left) in
     let k = skims-run (l .inv) _ (room .1) (r .copy-run .ensures .0) (r .copy-run .ensures .1) in
-    let u = c .before .before .before .before .before .before .before .before .before .alone in
-    let h = skims-fits k (u .result) (c .before .before .before .before .before .before .before .before .has-room .ensures) (not-false (c .before .before .before .before .before .before .before .before .has-room .result) (c .before .before .before .before .before .before .before .if2 .left)) in
-    let a = alone-stands _ (rw rest-from at (u .ensures)) (h .0) in
-    let p = c .before .before .before .before .put-piece .ensures in
-    let s = skims-alone k (u .result) (h .1) (h .2) a (p .0) (p .1) (p .2) in
-    omega (arith, s .there, r .copy-run .ensures .0 .from, h .0)
-
-loop-again : tie.Need-loop-again Inv-loop μ-loop
-loop-again c =
-    let r = c .before .before .before .before .before .before .before .before .before .before .before .before .before in
-    let l = r .before .before .before .before .before .loop in
-    let room = skims-free (l .inv) (r .before .before .before .lacks-room .ensures) (r .before .before .if1 .left) in
-    let k = skims-run (l .inv) _ (room .1) (r .copy-run .ensures .0) (r .copy-run .ensures .1) in
-    let u = c .before .before .before .before .before .before .before .before .before .alone in
-    let h = skims-fits k (u .result) (c .before .before .before .before .before .before .before .before .has-room .ensures) (not-false (c .before .before .before .before .before .before .before .before .has-room .result) (c .before .before .before .before .before .before .before .if2 .left)) in
-    let a = alone-stands _ (rw rest-from at (u .ensures)) (h .0) in
-    let p = c .before .before .before .before .put-piece .ensures in
-    let s = skims-alone k (u .result) (h .1) (h .2) a (p .0) (p .1) (p .2) in
-    s
+    let h = skims-fits k (d .before .before .alone .result) (d .before .has-room .ensures) (not-false (d .before .has-room .result) (d .if2 .left)) in
+    omega (arith, loop-again c .there, r .copy-run .ensures .0 .from, h .0)
 
 same-length-5 : tie.Need-same-length-5 Inv-loop μ-loop
 same-length-5 c = skims-room (c .before .loop .inv) .0

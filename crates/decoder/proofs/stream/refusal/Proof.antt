@@ -18,7 +18,9 @@ add-if3 c = search needs
 
 returns-3 : tie.Need-returns-3
 unfolding refusalOf
-returns-3 c = rw (not-false (c .before .before .before .args .opened) (c .before .before .if1 .left), le-ltb _ _ (c .before .if2 .left), lt-ltb _ _ (c .if3 .taken))
+returns-3 c =
+    let d = c .before .before in
+    rw (not-false (d .before .args .opened) (d .if1 .left), le-ltb _ _ (c .before .if2 .left), lt-ltb _ _ (c .if3 .taken))
 
 lacks-room-requires : tie.Need-lacks-room-requires
 lacks-room-requires c κs = search needs

@@ -36,7 +36,8 @@ refused-requires c κs = search needs
 
 returns : tie.Need-returns
 returns c =
-    feeds-nothing (end-refused _ _ _ _ (c .before .before .before .is-open .ensures) (c .before .before .refusal .ensures) refl (c .before .if1 .taken)) (c .refused .ensures)
+    let d = c .before .before in
+    feeds-nothing (end-refused _ _ _ _ (d .before .is-open .ensures) (d .refusal .ensures) refl (c .before .if1 .taken)) (c .refused .ensures)
 
 cast-t18 : tie.Need-cast-t18
 cast-t18 c =

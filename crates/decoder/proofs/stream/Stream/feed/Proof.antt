@@ -32,7 +32,8 @@ refused-requires c κs = search needs
 
 returns : tie.Need-returns
 returns c =
-    feeds-nothing (feed-refused _ _ _ _ (c .before .before .before .is-open .ensures) (c .before .before .refusal .ensures) _ refl (c .before .if1 .taken)) (c .refused .ensures)
+    let d = c .before .before in
+    feeds-nothing (feed-refused _ _ _ _ (d .before .is-open .ensures) (d .refusal .ensures) _ refl (c .before .if1 .taken)) (c .refused .ensures)
 
 slice-aggregate-walk : tie.Need-slice-aggregate-walk
 slice-aggregate-walk c = search needs
@@ -45,7 +46,8 @@ walk-requires : tie.Need-walk-requires
 walk-requires c κs =
     let i = c .before .before .before .before .before .before in
     let r = i .before .before .before .before .before .before .args .self in
-    let a = accepted r _ _ _ (i .is-open .ensures) (c .before .before .before .before .before .refusal .ensures) (c .before .before .before .before .if1 .left) in
+    let d = c .before .before .before .before in
+    let a = accepted r _ _ _ (i .is-open .ensures) (d .before .refusal .ensures) (d .if1 .left) in
     let p = opened r (a .is-open) in
     let is = c .before .before .cleared-record .ensures in
     (search needs, cleared-open r p is, omega (arith, cleared-taken r p is, a .within))
