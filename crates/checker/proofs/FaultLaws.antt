@@ -1,32 +1,22 @@
 -- Where a source stops, by the character that is read at a place.
-use Prim.Native.Nat.{ℕ, zero, suc, _+_, _-_, _≤_, _<_}
+use Prim.Native.Nat.{ℕ, _+_, _-_, _<_}
 use mathlib.Core.Path.{_≡_, refl, sym, _∙_, ap}
 use mathlib.Core.List.{List, [], _∷_}
-use mathlib.Core.Bool.{true, not}
 use mathlib.Core.Logic.{_≢_}
 use native.Mathlib.Omega.{arith}
 use types.Run.{OneOf, miss}
 use denote.Enum.Declared.{tagOf}
-use lib.Dec.{eqb}
-use lib.ListN.{length, getD, take, drop, length-drop}
-use lib.Seq.{drop-cons}
-use borrow.Author.Tests.{ne-eqb, not-true}
-use Rattle.lists.specs.Notation.{between}
-use Rattle.lists.proofs.Choice.{and-true, between-true}
+use lib.ListN.{length, take, drop, length-drop}
 use Rattle.standard.specs.declared.Context.{Context}
 use Rattle.standard.specs.declared.characters.CharRead.{CharRead}
 use Rattle.standard.specs.declared.characters.CharRead.the-variants.{Char, Incomplete, Illformed, End}
 use Rattle.standard.proofs.characters.CharRead.{the-type}
-use Rattle.standard.specs.declared.Context.the-variants.{Text, Attribute}
-use Rattle.standard.specs.Contexts.{ends}
 use Rattle.standard.specs.Utf8.{readChar}
 use Rattle.standard.specs.Answers.{done, ill-formed}
 use Rattle.standard.specs.Reading.{callsFor, answerTo, Stop, stops, stopOf}
 use Rattle.standard.proofs.Skips.{rest-from}
 use Rattle.standard.proofs.Utf8.{read-length, end-length}
-use Rattle.standard.proofs.Ascii.{read-ascii}
 use Rattle.standard.proofs.Looking.{Looking, looking-stops, looking-on}
-use Rattle.checker.specs.Runs.{endByte, quiet, Quiet}
 
 -- A stop that is known, by its parts.
 pub stop-is : {r : Stop} (answer place : ℕ) → r ≡ stops answer place → (answer ≡ r .answer) × (place ≡ r .place)
@@ -68,29 +58,3 @@ module _ (context : Context) {s : List ℕ} {at : ℕ} (l : Looking (callsFor co
     -- It has a byte.
     pub fault-size : 0 < n
     fault-size = read-length (drop at s) value n (read-is ∙ char) .0
-
--- A quiet byte is ASCII and calls for nothing.
-quiet-calls : (context : Context) (b : ℕ) → quiet (endByte context) b ≡ true → (b < 0x80) × (callsFor context b ≡ done)
-quiet-calls context b e =
-    let w = and-true (between 0x1 0x7F b) (not (eqb b (endByte context))) e in
-    let h = between-true 0x1 0x7F b (w .0) in
-    (omega arith, rw (ne-eqb b 0 (λ z. omega arith), ends-is context) (rw (not-true (eqb b (endByte context)) (w .1)) refl))
-  where
-    ends-is : (context : Context) → ends context b ≡ eqb b (endByte context)
-    ends-is Text = refl
-    ends-is Attribute = refl
-
--- Quiet bytes are passed.
-pub looking-run : (context : Context) {s : List ℕ} {at : ℕ} → Looking (callsFor context) s at → (to : ℕ) → at ≤ to → to ≤ length s
-    → Quiet (endByte context) s at (to - at) → Looking (callsFor context) s to
-looking-run context {s} {at} l to h there quiets =
-    let all : at + (to - at) ≡ to = omega arith in rw all at (go (to - at) (omega arith) quiets)
-  where
-    go : (n : ℕ) → at + n ≤ length s → Quiet (endByte context) s at n → Looking (callsFor context) s (at + n)
-    go zero k q = let same : at + 0 ≡ at = omega arith in rw same l
-    go (suc n) k q =
-        let b : ℕ = getD s (at + n) 0 in
-        let w = quiet-calls context b (q n (omega arith)) in
-        let read : readChar (drop (at + n) s) ≡ Char b 1 = rw (drop-cons s (at + n) 0 (omega arith)) (read-ascii b (drop (suc (at + n)) s) (w .0)) in
-        let later : at + n + 1 ≡ at + suc n = omega arith in
-        rw later at (rw read at (looking-on (go n (omega arith) (λ i j. q i (omega arith))) (ap (answerTo (callsFor context)) read ∙ w .1)))

@@ -40,7 +40,7 @@ use Rattle.decoder.specs.declared.stream.Held.{Held}
 use Rattle.decoder.specs.declared.stream.Stream.{Stream}
 use Rattle.decoder.specs.Machine.{Data, Step, nothing, stepData, step}
 use Rattle.decoder.specs.Pieces.{pieceOf, oneOf}
-use Rattle.decoder.specs.Runs.{plain, endByte}
+use Rattle.standard.specs.Runs.{plain, endByte}
 use Rattle.decoder.specs.Stream.{At, atBy, Walked, stopsAt, onward, lacksRoom, walk, isPart, stBy, heldOf, recordOf, atOf}
 use Rattle.decoder.specs.Turns.{Fits}
 use Rattle.decoder.specs.Feeding.{OpenAt, Open, Moves}
@@ -49,7 +49,7 @@ use Rattle.decoder.proofs.ClosedReferences.{Passes, walk-closed}
 use Rattle.decoder.proofs.PieceLaws.{character-read}
 use Rattle.decoder.proofs.Room.{room-only}
 use Rattle.decoder.proofs.Looks.{Looks, ascii, wide, looks, passes-ascii, alphanumeric-ascii}
-use Rattle.decoder.proofs.Quiet.{plain-is, plain-calls, calls-none}
+use Rattle.standard.proofs.RunLaws.{plain-is, plain-calls, calls-none}
 use Rattle.decoder.proofs.Unfolding.{all-append}
 use Rattle.decoder.proofs.Room.{room-so}
 use Rattle.decoder.proofs.Walks.{walk-more, walk-char}

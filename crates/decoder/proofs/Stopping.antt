@@ -5,40 +5,24 @@ use mathlib.Core.List.{List}
 use mathlib.Core.Logic.{⊎-elim}
 use native.Mathlib.Omega.{arith}
 use lib.ListN.{length, take, drop, length-drop}
-use lib.Seq.{drop-drop}
 use Rattle.lists.specs.Notation.{front}
 use Rattle.lists.proofs.Choice.{below?}
-use Rattle.lists.proofs.Fronts.{front-length}
 use Rattle.standard.specs.declared.Context.{Context}
 use Rattle.standard.specs.declared.characters.CharRead.{CharRead}
 use Rattle.standard.specs.Utf8.{readChar}
 use Rattle.standard.specs.Answers.{done}
-use Rattle.standard.specs.Reading.{callsFor, answerTo, sizeOf, Stop, stopFrom, stopOf}
-use Rattle.standard.proofs.Ascii.{stop-run}
+use Rattle.standard.specs.Reading.{callsFor, answerTo, sizeOf, Stop, stopOf}
 use Rattle.standard.proofs.Skips.{rest-from}
 use Rattle.standard.proofs.Looking.{Looking, looking-stops, looking-on, size-some}
-use Rattle.decoder.specs.Runs.{endByte, ordinary}
-use Rattle.decoder.proofs.Quiet.{ordinary-is}
-
--- The place after a run of ordinary bytes.
-abbrev runEnd : Context → List ℕ → ℕ → ℕ
-runEnd context s at = at + length (front (ordinary (endByte context)) (drop at s))
-
-module _ (context : Context) {s : List ℕ} {at : ℕ} (l : Looking (callsFor context) s at) where
-  pub looking-run : Looking (callsFor context) s (runEnd context s at)
-  looking-run = record {
-    there = omega (arith, l .there, front-length (ordinary (endByte context)) (drop at s), length-drop at s);
-    same =
-        l .same ∙ stop-run (callsFor context) (ordinary (endByte context)) (ordinary-is context) (drop at s) at
-        ∙ ap (stopFrom (callsFor context) 0 (runEnd context s at)) (drop-drop (length (front (ordinary (endByte context)) (drop at s))) at s);
-  }
+use Rattle.standard.specs.Runs.{endByte, ordinary}
+use Rattle.standard.proofs.RunLaws.{looking-run}
 
 -- One turn: after a run of ordinary bytes what stands at from is read.
 module _ (context : Context) {s : List ℕ} {at from : ℕ} {read : CharRead} (l : Looking (callsFor context) s at)
-    (is : from ≡ runEnd context s at) where
+    (is : from ≡ at + length (front (ordinary (endByte context)) (drop at s))) where
   module _ (reads : read ≡ readChar (take (length s - from) (drop from s))) where
     at-from : Looking (callsFor context) s from
-    at-from = rw is (looking-run context l)
+    at-from = looking-run context l is
 
     read-is : read ≡ readChar (drop from s)
     read-is = reads ∙ ap readChar (rest-from s from)

@@ -29,8 +29,8 @@ use Rattle.standard.proofs.Skips.{rest-from}
 use Rattle.rooms.proofs.Fits.{copy-fits, numbers-fit}
 use Rattle.decoder.specs.declared.pieces.Piece.{Piece}
 use Rattle.decoder.specs.Pieces.{pieceOf}
-use Rattle.decoder.specs.Runs.{plain, endByte}
-use Rattle.decoder.proofs.Quiet.{plain-is}
+use Rattle.standard.specs.Runs.{plain, endByte}
+use Rattle.standard.proofs.RunLaws.{plain-is}
 use Rattle.standard.proofs.PieceSize.{piece-size}
 use Rattle.decoder.proofs.Writing.{by-none, by-text, by-join}
 use Rattle.standard.proofs.Joining.{numbers-length, ⊕-assoc, ⊕-none}

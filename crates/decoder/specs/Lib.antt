@@ -1,4 +1,3 @@
-pub mod Runs
 pub mod Pieces
 pub mod Whole
 pub mod Writing

@@ -4,7 +4,6 @@ mod feeding;
 mod numbers;
 mod opening;
 mod pieces;
-mod runs;
 mod skimming;
 mod stops;
 mod stream;

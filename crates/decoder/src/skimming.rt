@@ -11,13 +11,13 @@ use crate::classes::alphanumeric;
 use crate::classes::character_code;
 use crate::pieces::Piece;
 use crate::pieces::reference;
-use crate::runs::plain_run;
 use crate::stops::calls_for;
 use crate::writers::lacks_room;
 use crate::writers::put_piece;
 use standard::Context;
 use standard::characters::CharRead;
 use standard::characters::read_char;
+use standard::runs::plain_end;
 
 fn least(a: usize, b: usize) -> usize
     ensures { λ r. ⌜ r ≡ min a b ⌝ }
@@ -42,7 +42,7 @@ fn copy_run(context: Context, chunk: &[u8], at: usize, text: &mut [u8], w: usize
 {
     let free = text.len() - w - 63;
     let limit = least(chunk.len() - at, free);
-    let end = plain_run(&chunk[..at + limit], at, context);
+    let end = plain_end(context, &chunk[..at + limit], at);
     Copied {
         at: end,
         text: rooms::copy(&chunk[at..end], text, w),

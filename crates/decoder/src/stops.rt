@@ -1,11 +1,11 @@
 // Where a source stops, and why.
 ghost use mathlib.Core.Path.{_≡_};
 ghost use Rattle.standard.specs.Reading.{callsFor, answerTo, sizeOf, stopOf};
-use crate::runs::end_of;
-use crate::runs::ordinary_run;
 use standard::Context;
 use standard::characters::CharRead;
 use standard::characters::read_char;
+use standard::runs::end_of;
+use standard::runs::ordinary_end;
 
 // Why reading stops, and after how many bytes.
 pub(crate) struct Stopped {
@@ -62,7 +62,7 @@ pub(crate) fn find_stop(context: Context, s: &[u8]) -> Stopped
 {
     let mut at: usize = 0;
     while at < s.len() {
-        let from = ordinary_run(s, at, context);
+        let from = ordinary_end(context, s, at);
         let read = read_char(&s[from..]);
         let answer = answer_to(context, read);
         if answer != 0 {

@@ -9,11 +9,11 @@ ghost use Rattle.standard.specs.Reading.{decode};
 ghost use Rattle.decoder.specs.Writing.{WroteBy, Wrote, unreadOf, Reads};
 ghost use Rattle.decoder.specs.Whole.{Decodes, DecodesBytes};
 use crate::pieces::piece_at;
-use crate::runs::plain_run;
 use crate::stops::find_stop;
 use crate::writers::Written;
 use crate::writers::put_piece;
 use standard::Context;
+use standard::runs::plain_end;
 use standard::table::builtin_names;
 
 // The answer, text bytes written (or asked for, with 9), errors written, and place.
@@ -41,7 +41,7 @@ fn decode_pieces(
     let mut w: usize = 0;
     let mut e: usize = 0;
     while at < s.len() {
-        let from = plain_run(s, at, context);
+        let from = plain_end(context, s, at);
         w = rooms::copy(&s[at..from], text, w);
         if from == s.len() {
             return Written { text: w, errors: e };
@@ -73,7 +73,7 @@ fn decode_pieces_bytes(
     let mut w: usize = 0;
     let mut e: usize = 0;
     while at < s.len() {
-        let from = plain_run(s, at, context);
+        let from = plain_end(context, s, at);
         w = rooms::copy(&s[at..from], text, w);
         if from == s.len() {
             return Written { text: w, errors: e };

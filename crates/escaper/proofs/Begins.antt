@@ -20,7 +20,8 @@ use Rattle.escaper.specs.declared.Mode.the-variants.{Text, Attribute}
 use Rattle.escaper.specs.declared.specials.Special.{Special}
 use Rattle.escaper.specs.declared.specials.Special.the-variants.{Quot}
 use Rattle.escaper.specs.Escape.{writtenFor}
-use Rattle.escaper.specs.Walk.{quoteOf, quiet, specialOf, sourceLength, textOf}
+use Rattle.standard.specs.Runs.{quiet}
+use Rattle.escaper.specs.Walk.{quoteOf, specialOf, sourceLength, textOf}
 
 -- A character c of n bytes is what x says: it has as many bytes, and the same is written for it.
 abbrev Begun : Mode → (c n : ℕ) → Special → Type 0

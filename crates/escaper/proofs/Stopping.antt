@@ -17,7 +17,7 @@ use Rattle.standard.specs.Reading.{answerTo, Stop, stops, stopFrom}
 use Rattle.standard.proofs.Utf8.{read-length, end-length}
 use Rattle.standard.proofs.Stops.{stop-unfold}
 use Rattle.standard.proofs.Ascii.{stop-run}
-use Rattle.escaper.specs.Walk.{ascii}
+use Rattle.standard.specs.Runs.{ascii}
 
 -- Where the bytes from `at` on stop.
 abbrev pub stopAt : List ℕ → ℕ → Stop

@@ -20,7 +20,8 @@ use Rattle.standard.proofs.Skips.{drop-pred, skip-drops}
 use Rattle.escaper.specs.declared.Mode.{Mode}
 use Rattle.escaper.specs.Escape.{writtenFor, escapeFrom, escape}
 use Rattle.escaper.specs.declared.specials.Special.{Special}
-use Rattle.escaper.specs.Walk.{quoteOf, quiet, specialOf, sourceLength, textOf}
+use Rattle.standard.specs.Runs.{quiet}
+use Rattle.escaper.specs.Walk.{quoteOf, specialOf, sourceLength, textOf}
 use Rattle.escaper.proofs.Begins.{begins}
 use Rattle.escaper.proofs.Stopping.{stopAt, stop-character}
 use Rattle.escaper.proofs.Quiet.{quiet-character}

@@ -1,9 +1,8 @@
--- How the code walks through an input, for its own contracts: bytes that stand for themselves whatever follows them, and what the others begin.
+-- How the code walks through an input, for its own contracts: what the bytes begin that are not quiet.
 use Prim.Native.Nat.{ℕ}
 use Prim.Native.Char.{code}
 use mathlib.Core.List.{List}
-use mathlib.Core.Bool.{Bool, not, _&&_}
-use lib.Dec.{ltb, eqb}
+use lib.Dec.{eqb}
 use Rattle.lists.specs.Notation.{if_then_else_}
 use Rattle.standard.specs.Utf8.{bytes}
 use Rattle.escaper.specs.declared.Mode.{Mode}
@@ -11,17 +10,9 @@ use Rattle.escaper.specs.declared.specials.Special.{Special}
 use Rattle.escaper.specs.declared.specials.Special.the-variants.{Amp, Lt, Gt, Nbsp, Quot, Other}
 use Rattle.escaper.specs.Escape.{inAttribute}
 
--- An ASCII byte.
-abbrev pub ascii : ℕ → Bool
-ascii b = ltb b 0x80
-
 -- The quotation mark where that is replaced, and `<` once more where it is not.
 abbrev pub quoteOf : Mode → ℕ
 quoteOf mode = if inAttribute mode then code "\"" else code "<"
-
--- A byte that is neither replaced nor the first of U+00A0.
-unfoldable pub quiet : (quote b : ℕ) → Bool
-quiet quote b = not (eqb b (code "&")) && not (eqb b (code "<")) && not (eqb b (code ">")) && not (eqb b 0xC2) && not (eqb b quote)
 
 -- What a byte that is not quiet begins, with the byte after it.
 unfoldable pub specialOf : (b after : ℕ) → Special

@@ -6,7 +6,8 @@ use borrow.Author.Needs.{needs}
 use Rattle.standard.specs.Answers.{done}
 use Rattle.standard.specs.Reading.{callsFor}
 use Rattle.standard.proofs.Looking.{Looking, looking-start, looking-end}
-use Rattle.checker.proofs.FaultLaws.{stop-is, fault-other, fault-called, fault-none, fault-size, looking-run}
+use Rattle.standard.proofs.RunLaws.{looking-run}
+use Rattle.checker.proofs.FaultLaws.{stop-is, fault-other, fault-called, fault-none, fault-size}
 use Rattle.checker.proofs.faults.find_fault.Statement.{statement}
 use Rattle.checker.proofs.faults.find_fault.Tie as tie
 
@@ -19,23 +20,22 @@ abbrev μ-loop : tie.MeasureT-loop
 loop-holds : tie.Need-loop-holds Inv-loop μ-loop
 loop-holds c = looking-start
 
-quiet-run-requires : tie.Need-quiet-run-requires Inv-loop μ-loop
-quiet-run-requires c κs = c .before .loop .inv .there
+ordinary-end-requires : tie.Need-ordinary-end-requires Inv-loop μ-loop
+ordinary-end-requires c κs = search needs
+
+-- A run is passed.
+passed : (c : tie.After-ordinary-end Inv-loop μ-loop) →
+    let a = c .before .before .before .before .args in Looking (callsFor (a .context)) (a .s .now) (c .ordinary-end .result)
+passed c = looking-run (c .before .before .before .before .args .context) (c .before .before .loop .inv) (c .ordinary-end .ensures)
 
 returns : tie.Need-returns Inv-loop μ-loop
-returns c =
-    let c3 = c .before .before .before in
-    let c5 = c3 .before .before in
-    stop-is done _
-    (looking-end
-    (looking-run (c5 .args .context) (c3 .loop .inv) _ (c .before .quiet-run .ensures .0) (c .before .quiet-run .ensures .1)
-    (c .before .quiet-run .ensures .2)) (omega (arith, c .if1 .taken)))
+returns c = stop-is done _ (looking-end (passed (c .before)) (omega (arith, c .if1 .taken)))
 
 sub-read-char : tie.Need-sub-read-char Inv-loop μ-loop
-sub-read-char c = omega (arith, c .before .quiet-run .ensures .1)
+sub-read-char c = omega (arith, passed (c .before) .there)
 
 part-read-char-start : tie.Need-part-read-char-start Inv-loop μ-loop
-part-read-char-start c = omega (arith, c .before .quiet-run .ensures .1)
+part-read-char-start c = omega (arith, passed (c .before) .there)
 
 part-read-char-end : tie.Need-part-read-char-end Inv-loop μ-loop
 part-read-char-end c = search needs
@@ -50,11 +50,8 @@ returns-2 : tie.Need-returns-2 Inv-loop μ-loop
 returns-2 c =
     let c3 = c .before .before .before in
     let c4 = c3 .before in
-    let c6 = c4 .before .before in
-    let c8 = c6 .before .before in
-    fault-other (c8 .args .context)
-    (looking-run (c8 .args .context) (c6 .loop .inv) _ (c4 .quiet-run .ensures .0) (c4 .quiet-run .ensures .1) (c4 .quiet-run .ensures .2))
-    (omega (arith, c4 .quiet-run .ensures .1, c3 .if1 .left)) (c .before .read-char .ensures) (c .match .keys2)
+    let c8 = c4 .before .before .before .before in
+    fault-other (c8 .args .context) (passed c4) (omega (arith, passed c4 .there, c3 .if1 .left)) (c .before .read-char .ensures) (c .match .keys2)
 
 called-for-requires : tie.Need-called-for-requires Inv-loop μ-loop
 called-for-requires c κs = search needs
@@ -65,46 +62,9 @@ returns-3 c =
     let c5 = c3 .before .before in
     let c7 = c5 .before .before in
     let c8 = c7 .before in
-    let c10 = c8 .before .before in
-    let c12 = c10 .before .before in
-    fault-called (c12 .args .context)
-    (looking-run (c12 .args .context) (c10 .loop .inv) _ (c8 .quiet-run .ensures .0) (c8 .quiet-run .ensures .1) (c8 .quiet-run .ensures .2))
-    (omega (arith, c8 .quiet-run .ensures .1, c7 .if1 .left)) (c5 .read-char .ensures) (c3 .value .given .1) (c .before .called-for .ensures)
-    (c .if2 .taken)
-
-add-at : tie.Need-add-at Inv-loop μ-loop
-add-at c =
-    let c3 = c .before .before .before in
-    let c5 = c3 .before .before in
-    let c7 = c5 .before .before in
-    let c8 = c7 .before in
-    let c10 = c8 .before .before in
-    let c12 = c10 .before .before in
-    let on = fault-none (c12 .args .context)
-    (looking-run (c12 .args .context) (c10 .loop .inv) _ (c8 .quiet-run .ensures .0) (c8 .quiet-run .ensures .1) (c8 .quiet-run .ensures .2))
-    (omega (arith, c8 .quiet-run .ensures .1, c7 .if1 .left)) (c5 .read-char .ensures) (c3 .value .given .1) (c .before .called-for .ensures)
-    (c .if2 .left) in omega (arith, on .there)
-
-loop-less : tie.Need-loop-less Inv-loop μ-loop
-loop-less c =
-    let c3 = c .before .before .before in
-    let c5 = c3 .before .before in
-    let c7 = c5 .before .before in
-    let c8 = c7 .before in
-    let c10 = c8 .before .before in
-    let c12 = c10 .before .before in
-    let on = fault-none (c12 .args .context)
-    (looking-run (c12 .args .context) (c10 .loop .inv) _ (c8 .quiet-run .ensures .0) (c8 .quiet-run .ensures .1) (c8 .quiet-run .ensures .2))
-    (omega (arith, c8 .quiet-run .ensures .1, c7 .if1 .left)) (c5 .read-char .ensures) (c3 .value .given .1) (c .before .called-for .ensures)
-    (c .if2 .left) in
-    omega (
-      arith,
-      on .there,
-      c8 .quiet-run .ensures .0,
-      fault-size (c12 .args .context)
-          (looking-run (c12 .args .context) (c10 .loop .inv) _ (c8 .quiet-run .ensures .0) (c8 .quiet-run .ensures .1) (c8 .quiet-run .ensures .2))
-          (omega (arith, c8 .quiet-run .ensures .1, c7 .if1 .left)) (c5 .read-char .ensures) (c3 .value .given .1) (c .before .called-for .ensures),
-    )
+    let c12 = c8 .before .before .before .before in
+    fault-called (c12 .args .context) (passed c8) (omega (arith, passed c8 .there, c7 .if1 .left)) (c5 .read-char .ensures) (c3 .value .given .1)
+    (c .before .called-for .ensures) (c .if2 .taken)
 
 loop-again : tie.Need-loop-again Inv-loop μ-loop
 loop-again c =
@@ -112,17 +72,32 @@ loop-again c =
     let c5 = c3 .before .before in
     let c7 = c5 .before .before in
     let c8 = c7 .before in
-    let c10 = c8 .before .before in
-    let c12 = c10 .before .before in
-    fault-none (c12 .args .context)
-    (looking-run (c12 .args .context) (c10 .loop .inv) _ (c8 .quiet-run .ensures .0) (c8 .quiet-run .ensures .1) (c8 .quiet-run .ensures .2))
-    (omega (arith, c8 .quiet-run .ensures .1, c7 .if1 .left)) (c5 .read-char .ensures) (c3 .value .given .1) (c .before .called-for .ensures)
-    (c .if2 .left)
+    let c12 = c8 .before .before .before .before in
+    fault-none (c12 .args .context) (passed c8) (omega (arith, passed c8 .there, c7 .if1 .left)) (c5 .read-char .ensures) (c3 .value .given .1)
+    (c .before .called-for .ensures) (c .if2 .left)
+
+add-at : tie.Need-add-at Inv-loop μ-loop
+add-at c = omega (arith, loop-again c .there)
+
+loop-less : tie.Need-loop-less Inv-loop μ-loop
+loop-less c =
+    let c3 = c .before .before .before in
+    let c5 = c3 .before .before in
+    let c7 = c5 .before .before in
+    let c8 = c7 .before in
+    let c12 = c8 .before .before .before .before in
+    omega (
+      arith,
+      loop-again c .there,
+      c8 .ordinary-end .ensures,
+      fault-size (c12 .args .context) (passed c8) (omega (arith, passed c8 .there, c7 .if1 .left)) (c5 .read-char .ensures) (c3 .value .given .1)
+          (c .before .called-for .ensures),
+    )
 
 returns-4 : tie.Need-returns-4 Inv-loop μ-loop
 returns-4 c = stop-is done _ (looking-end (c .before .loop .inv) (omega arith))
 
 pub find-fault-spec : {M : Type 1} → statement M
 find-fault-spec = tie.close
-    (tie.spec Inv-loop μ-loop loop-holds quiet-run-requires returns sub-read-char part-read-char-start part-read-char-end read-char-requires
+    (tie.spec Inv-loop μ-loop loop-holds ordinary-end-requires returns sub-read-char part-read-char-start part-read-char-end read-char-requires
     enum-known-value returns-2 called-for-requires returns-3 add-at loop-less loop-again returns-4)

@@ -19,26 +19,26 @@ sub-least c = omega (arith, c .before .before .pre .0)
 least-requires : tie.Need-least-requires
 least-requires c κs = search needs
 
-add-plain-run : tie.Need-add-plain-run
-add-plain-run c = omega (arith, c .least .ensures, c .before .before .before .pre .0)
+add-plain-end : tie.Need-add-plain-end
+add-plain-end c = omega (arith, c .least .ensures, c .before .before .before .pre .0)
 
-slice-aggregate-plain-run : tie.Need-slice-aggregate-plain-run
-slice-aggregate-plain-run c = simp length-take (omega (arith, c .before .least .ensures, c .before .before .before .before .pre .0))
+slice-aggregate-plain-end : tie.Need-slice-aggregate-plain-end
+slice-aggregate-plain-end c = simp length-take (omega (arith, c .before .least .ensures, c .before .before .before .before .pre .0))
 
-plain-run-requires : tie.Need-plain-run-requires
-plain-run-requires c κs = simp length-take (omega (arith, c .before .least .ensures, c .before .before .before .before .pre .0))
+plain-end-requires : tie.Need-plain-end-requires
+plain-end-requires c κs = search needs
 
 sub-copy : tie.Need-sub-copy
-sub-copy c = omega (arith, c .plain-run .ensures)
+sub-copy c = omega (arith, c .plain-end .ensures)
 
 part-copy-start : tie.Need-part-copy-start
-part-copy-start c = omega (arith, c .plain-run .ensures)
+part-copy-start c = omega (arith, c .plain-end .ensures)
 
 part-copy-end : tie.Need-part-copy-end
 part-copy-end c =
     let a = c .before .before .before .before .before in
     run-runs (a .args .context) (a .args .chunk .now) (a .args .at) (length (a .args .text .now) - a .args .w) (a .pre .0) (omega (arith, a .pre .1))
-    (c .before .before .least .ensures) (c .plain-run .ensures) .there
+    (c .before .before .least .ensures) (c .plain-end .ensures) .there
 
 copy-requires : tie.Need-copy-requires
 copy-requires c κs = search needs
@@ -51,7 +51,7 @@ returns c =
     let a = c .before .before .before .before .before .before .before .before .before .before in
     let run =
     run-runs (a .args .context) (a .args .chunk .now) (a .args .at) (length (a .args .text .now) - a .args .w) (a .pre .0) (omega (arith, a .pre .1))
-    (c .before .before .before .before .before .before .before .least .ensures) (c .before .before .before .before .before .plain-run .ensures) in
+    (c .before .before .before .before .before .before .before .least .ensures) (c .before .before .before .before .before .plain-end .ensures) in
     (run, copy-fits (omega (arith, run-length run, a .pre .1)) (c .before .before .copy .ensures))
 
 pub copy-run-spec : {M : Type 1} → statement M
@@ -62,9 +62,9 @@ copy-run-spec =
     sub-free-2
     sub-least
     least-requires
-    add-plain-run
-    slice-aggregate-plain-run
-    plain-run-requires
+    add-plain-end
+    slice-aggregate-plain-end
+    plain-end-requires
     sub-copy
     part-copy-start
     part-copy-end

@@ -5,7 +5,8 @@ use native.Mathlib.Omega.{arith}
 use lib.ListN.{length}
 use Rattle.standard.specs.Reading.{callsFor, Stop}
 use Rattle.standard.proofs.Looking.{Looking, looking-start, looking-end}
-use Rattle.decoder.proofs.Stopping.{looking-run, turn-stops, turn-on, turn-passes}
+use Rattle.standard.proofs.RunLaws.{looking-run}
+use Rattle.decoder.proofs.Stopping.{turn-stops, turn-on, turn-passes}
 use borrow.Author.Needs.{needs}
 use Rattle.decoder.proofs.stops.find_stop.Statement.{statement}
 use Rattle.decoder.proofs.stops.find_stop.Tie as tie
@@ -19,18 +20,18 @@ abbrev μ-loop : tie.MeasureT-loop
 loop-holds : tie.Need-loop-holds Inv-loop μ-loop
 loop-holds c = looking-start
 
-ordinary-run-requires : tie.Need-ordinary-run-requires Inv-loop μ-loop
-ordinary-run-requires c κs = c .before .loop .inv .there
+ordinary-end-requires : tie.Need-ordinary-end-requires Inv-loop μ-loop
+ordinary-end-requires c κs = search needs
 
 sub-read-char : tie.Need-sub-read-char Inv-loop μ-loop
 sub-read-char c =
     let c4 = c .before .before .before .before in
-    let k = c .ordinary-run .ensures in omega (arith, looking-run (c4 .args .context) (c .before .before .loop .inv) .there)
+    omega (arith, looking-run (c4 .args .context) (c .before .before .loop .inv) (c .ordinary-end .ensures) .there)
 
 part-read-char-start : tie.Need-part-read-char-start Inv-loop μ-loop
 part-read-char-start c =
     let c4 = c .before .before .before .before in
-    let k = c .ordinary-run .ensures in omega (arith, looking-run (c4 .args .context) (c .before .before .loop .inv) .there)
+    omega (arith, looking-run (c4 .args .context) (c .before .before .loop .inv) (c .ordinary-end .ensures) .there)
 
 part-read-char-end : tie.Need-part-read-char-end Inv-loop μ-loop
 part-read-char-end c = search needs
@@ -46,7 +47,7 @@ returns c =
     let c4 = c .before .before .before .before in
     let c8 = c4 .before .before .before .before in
     let t = c4 in
-    turn-stops (c8 .args .context) (t .before .before .loop .inv) (t .ordinary-run .ensures) (c .before .before .read-char .ensures)
+    turn-stops (c8 .args .context) (t .before .before .loop .inv) (t .ordinary-end .ensures) (c .before .before .read-char .ensures)
     (c .before .answer-to .ensures) (c .if1 .taken)
 
 size-of-requires : tie.Need-size-of-requires Inv-loop μ-loop
@@ -59,7 +60,7 @@ add-at c =
     let c9 = c5 .before .before .before .before in
     let t = c5 in
     let l = t .before .before .loop .inv in
-    let turn = turn-on (c9 .args .context) l (t .ordinary-run .ensures) (c3 .read-char .ensures)
+    let turn = turn-on (c9 .args .context) l (t .ordinary-end .ensures) (c3 .read-char .ensures)
     (c .before .before .answer-to .ensures) (c .before .if1 .left) (c .size-of .ensures) in
     omega (arith, turn .there)
 
@@ -70,12 +71,12 @@ loop-less c =
     let c9 = c5 .before .before .before .before in
     let t = c5 in
     let l = t .before .before .loop .inv in
-    let turn = turn-passes (c9 .args .context) l (t .ordinary-run .ensures) (c3 .read-char .ensures)
+    let turn = turn-passes (c9 .args .context) l (t .ordinary-end .ensures) (c3 .read-char .ensures)
     (c .before .before .answer-to .ensures) (c .before .if1 .left) (c .size-of .ensures) in
     omega (
       arith,
       turn (t .before .loop-test .taken),
-      turn-on (c9 .args .context) l (t .ordinary-run .ensures) (c3 .read-char .ensures)
+      turn-on (c9 .args .context) l (t .ordinary-end .ensures) (c3 .read-char .ensures)
           (c .before .before .answer-to .ensures) (c .before .if1 .left) (c .size-of .ensures) .there,
     )
 
@@ -86,7 +87,7 @@ loop-again c =
     let c9 = c5 .before .before .before .before in
     let t = c5 in
     let l = t .before .before .loop .inv in
-    let turn = turn-on (c9 .args .context) l (t .ordinary-run .ensures) (c3 .read-char .ensures)
+    let turn = turn-on (c9 .args .context) l (t .ordinary-end .ensures) (c3 .read-char .ensures)
     (c .before .before .answer-to .ensures) (c .before .if1 .left) (c .size-of .ensures) in
     turn
 
@@ -102,7 +103,7 @@ find-stop-spec =
     Inv-loop
     μ-loop
     loop-holds
-    ordinary-run-requires
+    ordinary-end-requires
     sub-read-char
     part-read-char-start
     part-read-char-end

@@ -24,19 +24,19 @@ abbrev μ-loop : tie.MeasureT-loop
 loop-holds : tie.Need-loop-holds Inv-loop μ-loop
 loop-holds c = (going-start laid-fours, refl)
 
-plain-run-requires : tie.Need-plain-run-requires Inv-loop μ-loop
-plain-run-requires c κs = c .before .loop .inv .0 .there
+plain-end-requires : tie.Need-plain-end-requires Inv-loop μ-loop
+plain-end-requires c κs = search needs
 
 sub-copy : tie.Need-sub-copy Inv-loop μ-loop
-sub-copy c = omega (arith, c .plain-run .ensures)
+sub-copy c = omega (arith, c .plain-end .ensures)
 
 part-copy-start : tie.Need-part-copy-start Inv-loop μ-loop
-part-copy-start c = omega (arith, c .plain-run .ensures)
+part-copy-start c = omega (arith, c .plain-end .ensures)
 
 part-copy-end : tie.Need-part-copy-end Inv-loop μ-loop
 part-copy-end c =
     let l = c .before .before in
-    omega (arith, run-there laid-fours (l .before .before .before .before .before .pre .2) (l .loop .inv .0) (c .plain-run .ensures))
+    omega (arith, run-there laid-fours (l .before .before .before .before .before .pre .2) (l .loop .inv .0) (c .plain-end .ensures))
 
 copy-requires : tie.Need-copy-requires Inv-loop μ-loop
 copy-requires c κs = search needs
@@ -44,7 +44,7 @@ copy-requires c κs = search needs
 same-length : tie.Need-same-length Inv-loop μ-loop
 same-length c =
     let t = c in
-    let f = t .before .before .before .before .before .before .plain-run in
+    let f = t .before .before .before .before .before .before .plain-end in
     let l = t .before .before .before .before .before .before .before .before in
     let a = l .before .before .before .before .before in
     let g = turn-run laid-fours (a .pre .2) (l .loop .inv .0) (f .ensures) (t .before .before .before .copy .ensures) in
@@ -56,7 +56,7 @@ same-length-2 c = going-room laid-fours (c .before .before .before .before .befo
 returns : tie.Need-returns Inv-loop μ-loop
 returns c =
     let t = c in
-    let f = t .before .before .before .before .before .before .plain-run in
+    let f = t .before .before .before .before .before .before .plain-end in
     let l = t .before .before .before .before .before .before .before .before in
     let a = l .before .before .before .before .before in
     let g = turn-run laid-fours (a .pre .2) (l .loop .inv .0) (f .ensures) (t .before .before .before .copy .ensures) in
@@ -65,7 +65,7 @@ returns c =
 sub-piece-at : tie.Need-sub-piece-at Inv-loop μ-loop
 sub-piece-at c =
     let t = c in
-    let f = t .before .before .before .before .before .before .plain-run in
+    let f = t .before .before .before .before .before .before .plain-end in
     let l = t .before .before .before .before .before .before .before .before in
     let a = l .before .before .before .before .before in
     run-there laid-fours (a .pre .2) (l .loop .inv .0) (f .ensures)
@@ -73,7 +73,7 @@ sub-piece-at c =
 part-piece-at-start : tie.Need-part-piece-at-start Inv-loop μ-loop
 part-piece-at-start c =
     let t = c in
-    let f = t .before .before .before .before .before .before .plain-run in
+    let f = t .before .before .before .before .before .before .plain-end in
     let l = t .before .before .before .before .before .before .before .before in
     let a = l .before .before .before .before .before in
     omega (arith, run-there laid-fours (a .pre .2) (l .loop .inv .0) (f .ensures))
@@ -84,7 +84,7 @@ part-piece-at-end c = search needs
 piece-at-requires : tie.Need-piece-at-requires Inv-loop μ-loop
 piece-at-requires c κs =
     let t = c .before in
-    let f = t .before .before .before .before .before .before .plain-run in
+    let f = t .before .before .before .before .before .before .plain-end in
     let l = t .before .before .before .before .before .before .before .before in
     let a = l .before .before .before .before .before in
     let h = run-there laid-fours (a .pre .2) (l .loop .inv .0) (f .ensures) in
@@ -96,7 +96,7 @@ slice-aggregate-put-piece c = sym (c .before .before .before .before .before .be
 cast-put-piece : tie.Need-cast-put-piece Inv-loop μ-loop
 cast-put-piece c =
     let t = c .before .before .before .before in
-    let f = t .before .before .before .before .before .before .plain-run in
+    let f = t .before .before .before .before .before .before .plain-end in
     let l = t .before .before .before .before .before .before .before .before in
     let a = l .before .before .before .before .before in
     omega (arith, a .pre .1, run-there laid-fours (a .pre .2) (l .loop .inv .0) (f .ensures))
@@ -104,7 +104,7 @@ cast-put-piece c =
 put-piece-requires : tie.Need-put-piece-requires Inv-loop μ-loop
 put-piece-requires c κs =
     let t = c .before .before .before .before in
-    let f = t .before .before .before .before .before .before .plain-run in
+    let f = t .before .before .before .before .before .before .plain-end in
     let l = t .before .before .before .before .before .before .before .before in
     let a = l .before .before .before .before .before in
     let g = turn-run laid-fours (a .pre .2) (l .loop .inv .0) (f .ensures) (t .before .before .before .copy .ensures) in
@@ -131,7 +131,7 @@ put-numbers-requires c κs = search needs
 loop-again : tie.Need-loop-again Inv-loop μ-loop
 loop-again c =
     let t = c .before .before .before .before .before .before .before .before .before .before .before .before .before .before in
-    let f = t .before .before .before .before .before .before .plain-run in
+    let f = t .before .before .before .before .before .before .plain-end in
     let l = t .before .before .before .before .before .before .before .before in
     let a = l .before .before .before .before .before in
     let h = run-there laid-fours (a .pre .2) (l .loop .inv .0) (f .ensures) in
@@ -153,7 +153,7 @@ add-at c =
 loop-less : tie.Need-loop-less Inv-loop μ-loop
 loop-less c =
     let t = c .before .before .before .before .before .before .before .before .before .before .before .before .before .before in
-    let f = t .before .before .before .before .before .before .plain-run in
+    let f = t .before .before .before .before .before .before .plain-end in
     let a = t .before .before .before .before .before .before .before .before .before .before .before .before .before in
     let q = c .before .before .before .before .before .before .before .before .before .before .before .before .piece-at in
     let h = run-there laid-fours (a .pre .2) (t .before .before .before .before .before .before .before .before .loop .inv .0) (f .ensures) in
@@ -177,7 +177,7 @@ decode-pieces-bytes-spec =
     Inv-loop
     μ-loop
     loop-holds
-    plain-run-requires
+    plain-end-requires
     sub-copy
     part-copy-start
     part-copy-end

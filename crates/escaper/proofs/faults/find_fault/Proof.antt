@@ -4,6 +4,7 @@ use mathlib.Core.Path.{_≡_, refl, sym, _∙_, ap}
 use mathlib.Core.Logic.{⊎-elim}
 use native.Mathlib.Omega.{arith}
 use borrow.Author.Needs.{needs}
+use borrow.Author.Tests.{lt-ltb}
 use lib.ListN.{length}
 use Rattle.standard.specs.Reading.{Stop}
 use Rattle.escaper.proofs.Stopping.{stopAt, rest-from, stop-ascii, ascii-some, stop-character, stop-fault, stop-end}
@@ -21,37 +22,34 @@ loop-holds c = (refl, omega arith)
 
 -- A run is passed.
 run-passed : (c : tie.After-ascii-end Inv-loop μ-loop) →
-    let s = c .before .before .before .before .before .before .before .args .s .now in
+    let s = c .before .before .before .before .before .before .args .s .now in
     let end = c .ascii-end .result in
-    (stopAt s 0 ≡ stopAt s end) × (c .before .before .before .before .before .loop .at < end) × (end ≤ length s)
+    (stopAt s 0 ≡ stopAt s end) × (c .before .before .before .before .loop .at < end) × (end ≤ length s)
 run-passed c =
-    let s = c .before .before .before .before .before .before .before .args .s .now in
-    let l = c .before .before .before .before .before .loop in
-    let w = ascii-some s (l .at) (omega arith) (sym (c .before .before .is-ascii .ensures) ∙ c .before .if1 .taken) in
+    let s = c .before .before .before .before .before .before .args .s .now in
+    let l = c .before .before .before .before .loop in
+    let w = ascii-some s (l .at) (omega arith) (lt-ltb _ 0x80 (c .before .if1 .taken)) in
     let e = c .ascii-end .ensures in
     (l .inv .0 ∙ rw e (stop-ascii s (l .at)), omega arith, omega arith)
 
 -- A character is passed.
 character-passed : (c : tie.After-known-told Inv-loop μ-loop) →
-    let s = c .before .before .before .before .before .before .before .before .before .before .before .args .s .now in
-    let at = c .before .before .before .before .before .before .before .before .before .loop .at in
+    let s = c .before .before .before .before .before .before .before .before .before .before .args .s .now in
+    let at = c .before .before .before .before .before .before .before .before .loop .at in
     let len = c .before .len .given .0 .1 .0 in
     (stopAt s 0 ≡ stopAt s (at + len)) × (1 ≤ len) × (at + len ≤ length s)
 character-passed c =
-    let s = c .before .before .before .before .before .before .before .before .before .before .before .args .s .now in
-    let l = c .before .before .before .before .before .before .before .before .before .loop in
+    let s = c .before .before .before .before .before .before .before .before .before .before .args .s .now in
+    let l = c .before .before .before .before .before .before .before .before .loop in
     let e = rw (rest-from s (l .at)) at (c .before .before .before .read-char .ensures) in
     let w = stop-character s (l .at) _ _ (omega arith) (sym e ∙ c .before .len .given .1) in
     (l .inv .0 ∙ w .0, w .1, w .2)
 
-shared-slice-read-is-ascii : tie.Need-shared-slice-read-is-ascii Inv-loop μ-loop
-shared-slice-read-is-ascii c = omega arith
-
-is-ascii-requires : tie.Need-is-ascii-requires Inv-loop μ-loop
-is-ascii-requires c κs = search needs
+shared-slice-read-if1 : tie.Need-shared-slice-read-if1 Inv-loop μ-loop
+shared-slice-read-if1 c = omega arith
 
 ascii-end-requires : tie.Need-ascii-end-requires Inv-loop μ-loop
-ascii-end-requires c κs = omega arith
+ascii-end-requires c κs = search needs
 
 loop-less : tie.Need-loop-less Inv-loop μ-loop
 loop-less c = omega (arith, run-passed c)
@@ -76,8 +74,8 @@ enum-known-len c = search needs
 
 returns : tie.Need-returns Inv-loop μ-loop
 returns c =
-    let a = c .before .before .before .before .before .before .before .before .before .args in
-    let l = c .before .before .before .before .before .before .before .loop in
+    let a = c .before .before .before .before .before .before .before .before .args in
+    let l = c .before .before .before .before .before .before .loop in
     let e = rw (rest-from (a .s .now) (l .at)) at (c .before .read-char .ensures) in
     let w = l .inv .0 ∙ stop-fault (a .s .now) (l .at) (omega arith)
     (λ v n f. ⊎-elim (λ z. omega arith) (⊎-elim (λ z. omega arith) (λ z. omega arith)) (rw (e ∙ f) at (c .match .keys2))) in
@@ -105,8 +103,7 @@ find-fault-spec =
     Inv-loop
     μ-loop
     loop-holds
-    shared-slice-read-is-ascii
-    is-ascii-requires
+    shared-slice-read-if1
     ascii-end-requires
     loop-less
     loop-again

@@ -21,7 +21,7 @@ loop-holds : tie.Need-loop-holds Inv-loop μ-loop
 loop-holds c = counted-none _ _ (c .before .pre .1)
 
 quiet-end-requires : tie.Need-quiet-end-requires Inv-loop μ-loop
-quiet-end-requires c κs = c .loop .inv .sound .there
+quiet-end-requires c κs = search needs
 
 -- The run is counted.
 run-counted : (c : tie.After-quiet-end Inv-loop μ-loop) →

@@ -20,7 +20,7 @@ loop-holds : tie.Need-loop-holds Inv-loop μ-loop
 loop-holds c = written-none _ _ _ (c .before .before .pre .0)
 
 quiet-end-requires : tie.Need-quiet-end-requires Inv-loop μ-loop
-quiet-end-requires c κs = c .loop .inv .counted .sound .there
+quiet-end-requires c κs = search needs
 
 -- The run is passed.
 run-passed : (c : tie.After-quiet-end Inv-loop μ-loop) →

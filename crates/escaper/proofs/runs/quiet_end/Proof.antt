@@ -1,4 +1,4 @@
--- quiet_end is run_end at the byte of its mode.
+-- quiet_end goes by the byte of its mode.
 use borrow.Author.Needs.{needs}
 use Rattle.escaper.proofs.runs.quiet_end.Statement.{statement}
 use Rattle.escaper.proofs.runs.quiet_end.Tie as tie
@@ -6,11 +6,11 @@ use Rattle.escaper.proofs.runs.quiet_end.Tie as tie
 quote-of-requires : tie.Need-quote-of-requires
 quote-of-requires c κs = search needs
 
-run-end-requires : tie.Need-run-end-requires
-run-end-requires c κs = search needs
+quiet-end-requires : tie.Need-quiet-end-requires
+quiet-end-requires c κs = search needs
 
 returns : tie.Need-returns
-returns c = rw (c .before .quote-of .ensures) at (c .run-end .ensures)
+returns c = rw (c .before .quote-of .ensures) at (c .quiet-end .ensures)
 
 pub quiet-end-spec : {M : Type 1} → statement M
-quiet-end-spec = tie.close (tie.spec quote-of-requires run-end-requires returns)
+quiet-end-spec = tie.close (tie.spec quote-of-requires quiet-end-requires returns)

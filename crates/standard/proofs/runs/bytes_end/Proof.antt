@@ -1,4 +1,4 @@
--- The invariant: the ordinary bytes from `from` on end where those from `at` on do.
+-- The invariant: the bytes of the kind from `from` on end where those from `at` on do.
 use Prim.Native.Nat.{_-_}
 use mathlib.Core.Path.{sym, _∙_}
 use native.Mathlib.Omega.{arith}
@@ -6,29 +6,29 @@ use lib.ListN.{length}
 use borrow.Author.Needs.{needs}
 use borrow.Author.Tests.{not-true, not-false}
 use Rattle.lists.proofs.Fronts.{Skipping, skipping-all, skipping-on, skipped, passed-one, stopped-at, stopped-end}
-use Rattle.decoder.specs.Runs as spec
-use Rattle.decoder.proofs.runs.ordinary_bytes.Statement.{statement}
-use Rattle.decoder.proofs.runs.ordinary_bytes.Tie as tie
+use Rattle.standard.specs.Runs as spec
+use Rattle.standard.proofs.runs.bytes_end.Statement.{statement}
+use Rattle.standard.proofs.runs.bytes_end.Tie as tie
 
 abbrev Inv-loop : tie.InvT-loop
-Inv-loop s from end at₀ at = Skipping (spec.ordinary end) s from at
+Inv-loop kind s from at₀ at = Skipping (spec.isOf kind) s from at
 
 abbrev μ-loop : tie.MeasureT-loop
-μ-loop s from end at₀ at = length s - at
+μ-loop kind s from at₀ at = length s - at
 
 loop-holds : tie.Need-loop-holds Inv-loop μ-loop
 loop-holds c = skipping-all (c .before .pre)
 
-shared-slice-read-ordinary : tie.Need-shared-slice-read-ordinary Inv-loop μ-loop
-shared-slice-read-ordinary c = omega arith
+shared-slice-read-is-of : tie.Need-shared-slice-read-is-of Inv-loop μ-loop
+shared-slice-read-is-of c = omega arith
 
-ordinary-requires : tie.Need-ordinary-requires Inv-loop μ-loop
-ordinary-requires c κs = search needs
+is-of-requires : tie.Need-is-of-requires Inv-loop μ-loop
+is-of-requires c κs = search needs
 
 returns : tie.Need-returns Inv-loop μ-loop
 returns c =
     let l = c .before .before .before .before .loop in
-    let e = sym (c .before .ordinary .ensures) ∙ not-true _ (c .if1 .taken) in
+    let e = sym (c .before .is-of .ensures) ∙ not-true _ (c .if1 .taken) in
     skipped (l .inv) (stopped-at (omega arith) e)
 
 add-at : tie.Need-add-at Inv-loop μ-loop
@@ -40,21 +40,21 @@ loop-less c = omega arith
 loop-again : tie.Need-loop-again Inv-loop μ-loop
 loop-again c =
     let l = c .before .before .before .before .loop in
-    let e = sym (c .before .ordinary .ensures) ∙ not-false _ (c .if1 .left) in
+    let e = sym (c .before .is-of .ensures) ∙ not-false _ (c .if1 .left) in
     skipping-on (omega arith) (l .inv) (passed-one (omega arith) e)
 
 returns-2 : tie.Need-returns-2 Inv-loop μ-loop
 returns-2 c = skipped (c .before .loop .inv) (stopped-end (omega arith))
 
-pub ordinary-bytes-spec : {M : Type 1} → statement M
-ordinary-bytes-spec =
+pub bytes-end-spec : {M : Type 1} → statement M
+bytes-end-spec =
     tie.close
     (tie.spec
     Inv-loop
     μ-loop
     loop-holds
-    shared-slice-read-ordinary
-    ordinary-requires
+    shared-slice-read-is-of
+    is-of-requires
     returns
     add-at
     loop-less

@@ -1,21 +1,26 @@
--- Bytes of runs: plain ones stand for themselves, and ordinary ones stop no reading.
-use Prim.Native.Nat.{ℕ, _<_}
+-- Bytes of runs: plain ones stand for themselves, and ordinary ones stop no reading; so a run of these is passed at once.
+use Prim.Native.Nat.{ℕ, _+_, _<_}
 use Prim.Native.Char.{code}
 use mathlib.Core.Path.{_≡_, refl, sym, _∙_, ap}
+use mathlib.Core.List.{List}
 use mathlib.Core.Bool.{true, not, _||_, _&&_}
 use mathlib.Core.Logic.{inl, inr, ⊎-elim}
 use native.Mathlib.Omega.{arith}
 use lib.Dec.{eqb}
+use lib.ListN.{length, drop, length-drop}
+use lib.Seq.{drop-drop}
 use borrow.Author.Tests.{eqb-true, eqb-false, eq-eqb, ne-eqb, not-true}
-use Rattle.lists.specs.Notation.{between}
+use Rattle.lists.specs.Notation.{between, front}
 use Rattle.lists.proofs.Choice.{no-way, and-true, or-true, between-true}
+use Rattle.lists.proofs.Fronts.{front-length}
 use Rattle.standard.specs.declared.Context.{Context}
 use Rattle.standard.specs.declared.Context.the-variants.{Text, Attribute}
 use Rattle.standard.specs.Contexts.{ends}
 use Rattle.standard.specs.Answers.{done, context-end}
-use Rattle.standard.specs.Reading.{callsFor}
-use Rattle.standard.proofs.Ascii.{Plain, plain-printable, plain-blank}
-use Rattle.decoder.specs.Runs.{standing, plain, endByte, ordinary}
+use Rattle.standard.specs.Reading.{callsFor, stopFrom}
+use Rattle.standard.proofs.Ascii.{Plain, plain-printable, plain-blank, stop-run}
+use Rattle.standard.proofs.Looking.{Looking}
+use Rattle.standard.specs.Runs.{standing, plain, endByte, ordinary}
 
 -- A byte that stands for itself does so without an error.
 pub standing-is : (b : ℕ) → standing b ≡ true → Plain b
@@ -56,3 +61,16 @@ plain-calls context b e =
       h,
       calls-none context b (λ i. no-way (sym (w .0) ∙ ap standing i)) (eqb-false b (endByte context) (not-true (eqb b (endByte context)) (w .1))),
     )
+
+-- After a run of ordinary bytes the source stops where what is left does.
+pub looking-run : (context : Context) {s : List ℕ} {at from : ℕ} → Looking (callsFor context) s at
+    → from ≡ at + length (front (ordinary (endByte context)) (drop at s)) → Looking (callsFor context) s from
+looking-run context {s} {at} l is =
+    let run : List ℕ = front (ordinary (endByte context)) (drop at s) in
+    rw is
+    (record {
+      there = omega (arith, l .there, front-length (ordinary (endByte context)) (drop at s), length-drop at s);
+      same =
+          l .same ∙ stop-run (callsFor context) (ordinary (endByte context)) (ordinary-is context) (drop at s) at
+          ∙ ap (stopFrom (callsFor context) 0 (at + length run)) (drop-drop (length run) at s);
+    })

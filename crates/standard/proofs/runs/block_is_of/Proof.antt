@@ -1,31 +1,31 @@
--- The invariant: odd is 0 exactly if the first i bytes from `at` on are ordinary.
+-- The invariant: odd is 0 exactly if the first i bytes from `at` on are of the kind.
 use Prim.Native.Nat.{_≤_, _-_}
 use mathlib.Core.Path.{_≡_}
 use mathlib.Core.Logic.{⊎-map}
 use native.Mathlib.Omega.{arith}
 use borrow.Author.Needs.{needs}
 use Rattle.lists.proofs.Blocks.{Counted, counted-none, counted-more}
-use Rattle.decoder.specs.Runs as spec
-use Rattle.decoder.proofs.runs.ordinary_block.Statement.{statement}
-use Rattle.decoder.proofs.runs.ordinary_block.Tie as tie
+use Rattle.standard.specs.Runs as spec
+use Rattle.standard.proofs.runs.block_is_of.Statement.{statement}
+use Rattle.standard.proofs.runs.block_is_of.Tie as tie
 
 abbrev Inv-loop : tie.InvT-loop
-Inv-loop s at end odd₀ i₀ odd i = Counted (spec.ordinary end) s at i odd × (i ≤ 64)
+Inv-loop kind s at odd₀ i₀ odd i = Counted (spec.isOf kind) s at i odd × (i ≤ 32)
 
 abbrev μ-loop : tie.MeasureT-loop
-μ-loop s at end odd₀ i₀ odd i = 64 - i
+μ-loop kind s at odd₀ i₀ odd i = 32 - i
 
 loop-holds : tie.Need-loop-holds Inv-loop μ-loop
 loop-holds c = (counted-none, omega arith)
 
-add-ordinary : tie.Need-add-ordinary Inv-loop μ-loop
-add-ordinary c = omega arith
+add-is-of : tie.Need-add-is-of Inv-loop μ-loop
+add-is-of c = omega arith
 
-shared-slice-read-ordinary : tie.Need-shared-slice-read-ordinary Inv-loop μ-loop
-shared-slice-read-ordinary c = omega arith
+shared-slice-read-is-of : tie.Need-shared-slice-read-is-of Inv-loop μ-loop
+shared-slice-read-is-of c = omega arith
 
-ordinary-requires : tie.Need-ordinary-requires Inv-loop μ-loop
-ordinary-requires c κs = search needs
+is-of-requires : tie.Need-is-of-requires Inv-loop μ-loop
+is-of-requires c κs = search needs
 
 add-odd : tie.Need-add-odd Inv-loop μ-loop
 add-odd c = omega arith
@@ -39,7 +39,7 @@ loop-less c = omega arith
 loop-again : tie.Need-loop-again Inv-loop μ-loop
 loop-again c =
     let l = c .before .before .before .before .loop in (
-      counted-more (omega arith) (c .before .ordinary .ensures) (l .inv .0)
+      counted-more (omega arith) (c .before .is-of .ensures) (l .inv .0)
           (⊎-map (λ w. (w .0 .taken, w .1)) (λ w. (w .0 .left, w .1)) (c .if1 .came)),
       omega arith,
     )
@@ -47,19 +47,19 @@ loop-again c =
 returns : tie.Need-returns Inv-loop μ-loop
 returns c =
     let l = c .before .loop in
-    let e : l .i ≡ 64 = omega arith in
+    let e : l .i ≡ 32 = omega arith in
     rw e at (l .inv .0 .so-far)
 
-pub ordinary-block-spec : {M : Type 1} → statement M
-ordinary-block-spec =
+pub block-is-of-spec : {M : Type 1} → statement M
+block-is-of-spec =
     tie.close
     (tie.spec
     Inv-loop
     μ-loop
     loop-holds
-    add-ordinary
-    shared-slice-read-ordinary
-    ordinary-requires
+    add-is-of
+    shared-slice-read-is-of
+    is-of-requires
     add-odd
     add-i
     loop-less

@@ -1,0 +1,115 @@
+// Runs: stretches of bytes of one kind, which need no look at each character. They are tested in blocks, whose loop has no early end, so that it is
+// done many bytes at a time.
+ghost use mathlib.Core.Path.{_≡_};
+ghost use Prim.Native.Nat.{_≤_, _+_};
+ghost use lib.ListN.{length, take, drop};
+ghost use Rattle.lists.specs.Notation.{front, every};
+ghost use Rattle.standard.specs.Runs as spec;
+use crate::Context;
+
+// A kind of bytes, of which one more may be left out.
+enum Kind {
+    Ascii,
+    Ordinary(u8),
+    Plain(u8),
+    Quiet(u8),
+}
+
+// The byte before which a source ends.
+pub fn end_of(context: Context) -> u8
+    ensures { λ r. ⌜ r ≡ spec.endByte context ⌝ }
+{
+    match context {
+        Context::Text => b'<',
+        Context::Attribute => b'"',
+    }
+}
+
+// Whether a byte is of a kind. The match is the same for a whole block, and what it leads to has no branches.
+fn is_of(kind: Kind, b: u8) -> bool
+    ensures { λ r. ⌜ r ≡ spec.isOf kind b ⌝ }
+{
+    match kind {
+        Kind::Ascii => b < 0x80,
+        Kind::Ordinary(end) => (0x1 <= b) & (b <= 0x7F) & (b != end),
+        Kind::Plain(end) => (((0x20 <= b) & (b <= 0x7E) & (b != b'&')) | (b == 0xA) | (b == 0x9))
+            & (b != end),
+        Kind::Quiet(quote) => (b != b'&') & (b != b'<') & (b != b'>') & (b != 0xC2) & (b != quote),
+    }
+}
+
+// Whether the 32 bytes from `at` on are of a kind.
+fn block_is_of(kind: Kind, s: &[u8], at: usize) -> bool
+    requires { ⌜ at + 32 ≤ length (now s) ⌝ }
+    ensures { λ r. ⌜ r ≡ every (spec.isOf kind) (take 32 (drop at (now (s .entry)))) ⌝ }
+{
+    let mut odd: u8 = 0;
+    let mut i: usize = 0;
+    while i < 32 {
+        if !is_of(kind, s[at + i]) {
+            odd += 1;
+        }
+        i += 1;
+    }
+    odd == 0
+}
+
+// Where the bytes of a kind that stand from `from` on end, byte by byte.
+fn bytes_end(kind: Kind, s: &[u8], from: usize) -> usize
+    requires { ⌜ from ≤ length (now s) ⌝ }
+    ensures { λ r. ⌜ r ≡ from + length (front (spec.isOf kind) (drop from (now (s .entry)))) ⌝ }
+{
+    let mut at = from;
+    while at < s.len() {
+        if !is_of(kind, s[at]) {
+            return at;
+        }
+        at += 1;
+    }
+    at
+}
+
+// The same from any place, in blocks as long as they are of the kind.
+fn run_end(kind: Kind, s: &[u8], from: usize) -> usize
+    ensures { λ r. ⌜ r ≡ from + length (front (spec.isOf kind) (drop from (now (s .entry)))) ⌝ }
+{
+    if s.len() < from {
+        return from;
+    }
+    let mut at = from;
+    while 32 <= s.len() - at {
+        if !block_is_of(kind, s, at) {
+            return bytes_end(kind, s, at);
+        }
+        at += 32;
+    }
+    bytes_end(kind, s, at)
+}
+
+// Where ASCII ends.
+pub fn ascii_end(s: &[u8], from: usize) -> usize
+    ensures { λ r. ⌜ r ≡ from + length (front spec.ascii (drop from (now (s .entry)))) ⌝ }
+{
+    run_end(Kind::Ascii, s, from)
+}
+
+// Where the bytes end that are characters of their own and stop no reading.
+pub fn ordinary_end(context: Context, s: &[u8], from: usize) -> usize
+    ensures { λ r. ⌜ r ≡ from + length (front (spec.ordinary (spec.endByte context)) (drop from (now (s .entry)))) ⌝ }
+{
+    run_end(Kind::Ordinary(end_of(context)), s, from)
+}
+
+// Where the bytes end that are characters of their own and stand for themselves, without an error.
+pub fn plain_end(context: Context, s: &[u8], from: usize) -> usize
+    ensures { λ r. ⌜ r ≡ from + length (front (spec.plain (spec.endByte context)) (drop from (now (s .entry)))) ⌝ }
+{
+    run_end(Kind::Plain(end_of(context)), s, from)
+}
+
+// Where the bytes end that escaping leaves as they are, whatever follows them: none is `&`, `<`, `>`, quote, or C2, with which U+00A0 begins.
+pub fn quiet_end(quote: u8, s: &[u8], from: usize) -> usize
+    ensures { λ r. ⌜ r ≡ from + length (front (spec.quiet quote) (drop from (now (s .entry)))) ⌝ }
+{
+    run_end(Kind::Quiet(quote), s, from)
+}
