@@ -3,11 +3,14 @@
 Made from document 01, 'The bench program', and its settled reading that any start but `T` LF and `A` LF is a bad context, with the code
 in sight. What is read of a source is that of replay_whole.py, which was made without. Only the standard library is needed.
 
-    python3 tests/replay_bench.py crates/replay_bench
+    python3 tests/replay_bench.py FOLDER
 
-writes to that folder stdin, the inputs to be replayed, and stdout, what is written for them:
+writes to that folder stdin, a list of inputs to be replayed, and stdout, what is written for them. They are the third part of those of crates/replay,
+where the parts stand one after the other; tests/replay does all of it.
 
-    input    n, then n bytes: 2 + n bytes, n little-endian
+    list     the letter B, how many bytes the records have (4 bytes, little-endian), and the records
+    record   0, text room, error room, 0, n, 0: 1 + 4 + 4 + 4 + 2 + 2 bytes, numbers little-endian; then n bytes, the input; the rooms are those
+             that the bench program has, and the fields that are 0 have no use here
     output   a line with the length of the report, and the report
 
     python3 tests/replay_bench.py COMMAND..
@@ -16,15 +19,14 @@ runs a built bench program on every input instead, once with the whole input at 
 compares what it writes. The command is the program, with what starts it before it where the machine needs that: an emulator, a loader.
 """
 
-import struct
 import subprocess
 import sys
-from itertools import product
+from itertools import chain, product
 from pathlib import Path
 
 from replay_whole import (
     CONTEXTS, ILL_FORMED, LEFT, MARKED_SOURCES, NUL, ONLY_RUN, TEXT, check_examples, check_names, decode_whole, enough_room,
-    faulty_sources, line_break_sources, nul_sources, random_sources,
+    faulty_sources, line_break_sources, nul_sources, packed, random_sources, write_part,
 )
 
 # --------------------------------------------------------------------------------------------------------------------------- the model
@@ -97,21 +99,27 @@ def all_inputs():
 
 # --------------------------------------------------------------------------------------------------------------------------- the files
 
+# The rooms that the bench program has for a report and for the numbers of errors.
+REPORT_ROOM, NUMBERS_ROOM = 32_784, 8_200
+
+
 def check_report():
     """The model gives what the paper prints, and no report is longer than the program's room."""
     assert report(b"T\n&notit;x") == "¬it;x\n2 0\nend 8\n".encode()
-    assert max(len(report(data)) for data in all_inputs()) <= 32_784
+    assert max(len(report(data)) for data in all_inputs()) <= REPORT_ROOM
+
+
+def replayed(data):
+    """The lines for an input: the length of the report, and its own, of which LF ends each."""
+    written = report(data)
+    return str(len(written)), *written.decode().split("\n")[:-1]
 
 
 def write_files(folder, inputs):
     """Write stdin and stdout."""
-    folder.mkdir(parents=True, exist_ok=True)
-    stdin = b"".join(struct.pack("<H", len(data)) + data for data in inputs)
-    stdout = b"".join(lines(len(report(data))) + report(data) for data in inputs)
-    assert len(stdin) <= 200_000, "the program reads no more than that"
-    (folder / "stdin").write_bytes(stdin)
-    (folder / "stdout").write_bytes(stdout)
-    print(f"{len(inputs)} inputs, stdin {len(stdin)} bytes, stdout {len(stdout)} bytes")
+    records = (packed("\0", REPORT_ROOM, NUMBERS_ROOM, 0, data) for data in inputs)
+    sizes = write_part(folder, b"B", records, chain.from_iterable(map(replayed, inputs)))
+    print(f"{len(inputs)} inputs, {sizes}")
 
 
 def run_program(command, inputs):
@@ -132,7 +140,7 @@ def run_program(command, inputs):
 def main():
     """Check the model, then write the files or run the program."""
     if len(sys.argv) < 2:
-        sys.exit("usage: python3 tests/replay_bench.py crates/replay_bench | COMMAND..")
+        sys.exit("usage: python3 tests/replay_bench.py FOLDER | COMMAND..")
     check_names()
     check_examples()
     check_report()

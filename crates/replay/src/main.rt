@@ -1,11 +1,12 @@
 // Replays calls: lists of records come in, and a line for each record goes out. Before a list stand its letter and, in four bytes, its length: W for
-// whole calls (tests/replay_whole.py has the forms of records and lines), S for the stream (tests/replay_stream.py), R for the Rust's sample
-// (oracle/sample). What can't be replayed has a line that says so.
+// whole calls (tests/replay_whole.py has the forms of records and lines), S for the stream (tests/replay_stream.py), B for the bench program's inputs
+// (tests/replay_bench.py), whose reports follow their lines, R for the Rust's sample (oracle/sample). What can't be replayed has a line that says so.
 mod checks;
 mod lines;
 mod marks;
 mod numbers;
 mod records;
+mod reports;
 mod rust;
 mod sources;
 mod stream;
@@ -59,7 +60,7 @@ fn replay_list(letter: u8, list: &[u8]) -> usize {
 
 // A list by its letter.
 fn replay_known(letter: u8, list: &[u8]) {
-    if letter == b'W' || letter == b'S' || letter == b'R' {
+    if letter == b'W' || letter == b'S' || letter == b'B' || letter == b'R' {
         if replay_list(letter, list) < list.len() {
             put_bytes(b"a record is cut short\n");
         }

@@ -4,6 +4,7 @@ ghost use lib.ListN.{length};
 use crate::numbers::least;
 use crate::numbers::number_at;
 use crate::numbers::short_at;
+use crate::reports::replay_report;
 use crate::rust::replay_rust;
 use crate::sources::make_source;
 use crate::stream::replay_stream;
@@ -51,6 +52,7 @@ fn replay_kind(
     match letter {
         b'W' => replay_whole(kind, source, before, text, errors),
         b'S' => replay_stream(kind, source, before, text, errors),
+        b'B' => replay_report(source, text, errors),
         _ => replay_rust(kind, source, text, errors),
     }
 }
