@@ -38,30 +38,35 @@ fn replaced(c: u32) -> u32
     0xFFFD
 }
 
+// A byte of a character: its high-order bits, and the number that the others hold.
+fn put_byte(text: &mut [u8], at: usize, high: u32, low: u32) -> usize
+    requires { ⌜ (at < length (now text)) × (high + low < 256) ⌝ }
+    ensures { λ r. ⌜ Put (now (text .entry)) at ((high + low) ∷ []) (now (text .exit)) r ⌝ }
+{
+    text[at] = (high + low) as u8;
+    at + 1
+}
+
 fn put_octets(text: &mut [u8], at: usize, c: u32) -> usize
     requires { ⌜ (at + 4 ≤ length (now text)) × (c < 0x110000) ⌝ }
     ensures { λ r. ⌜ Put (now (text .entry)) at (octets c) (now (text .exit)) r ⌝ }
 {
     if c < 0x80 {
-        text[at] = c as u8;
-        return at + 1;
+        return put_byte(text, at, 0, c);
     }
     if c < 0x800 {
-        text[at] = (0xC0 + c / 64) as u8;
-        text[at + 1] = (0x80 + c % 64) as u8;
-        return at + 2;
+        let last = put_byte(text, at, 0xC0, c / 64);
+        return put_byte(text, last, 0x80, c % 64);
     }
     if c < 0x10000 {
-        text[at] = (0xE0 + c / 4096) as u8;
-        text[at + 1] = (0x80 + c / 64 % 64) as u8;
-        text[at + 2] = (0x80 + c % 64) as u8;
-        return at + 3;
+        let second = put_byte(text, at, 0xE0, c / 4096);
+        let last = put_byte(text, second, 0x80, c / 64 % 64);
+        return put_byte(text, last, 0x80, c % 64);
     }
-    text[at] = (0xF0 + c / 262144) as u8;
-    text[at + 1] = (0x80 + c / 4096 % 64) as u8;
-    text[at + 2] = (0x80 + c / 64 % 64) as u8;
-    text[at + 3] = (0x80 + c % 64) as u8;
-    at + 4
+    let second = put_byte(text, at, 0xF0, c / 262144);
+    let third = put_byte(text, second, 0x80, c / 4096 % 64);
+    let last = put_byte(text, third, 0x80, c / 64 % 64);
+    put_byte(text, last, 0x80, c % 64)
 }
 
 // The bytes of a character.

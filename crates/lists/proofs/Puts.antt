@@ -19,10 +19,6 @@ sets-append l i (a ∷ u) v =
 pub put-none : (old : List ℕ) (at : ℕ) → Put old at [] old at
 put-none old at = record { next-is = omega arith; new-is = refl }
 
--- One value is written.
-pub put-one : (old : List ℕ) (at v : ℕ) → Put old at (v ∷ []) (set old at v) (at + 1)
-put-one old at v = record { next-is = refl; new-is = refl }
-
 -- Two writers.
 pub put-join : {old mid new : List ℕ} {at m next : ℕ} {u v : List ℕ} → Put old at u mid m → Put mid m v new next → Put old at (u ++ v) new next
 put-join {old} {mid} {new} {at} {m} {next} {u} {v} a b = record {

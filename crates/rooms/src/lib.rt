@@ -1,6 +1,7 @@
 // Writing into lent rooms of bytes.
 ghost use mathlib.Core.Path.{_≡_};
-ghost use Prim.Native.Nat.{_≤_, _+_, _-_, _/_, min};
+ghost use mathlib.Core.List.{_∷_, []};
+ghost use Prim.Native.Nat.{_≤_, _<_, _+_, _-_, _/_, _%_, min};
 ghost use lib.ListN.{length, take, drop};
 ghost use Rattle.lists.specs.Bytes.{fourBytes, fours};
 ghost use Rattle.lists.specs.Rooms.{Put};
@@ -73,16 +74,24 @@ pub fn copy(from: &[u8], to: &mut [u8], at: usize) -> usize
     put_bytes(&from[i..count], to, next)
 }
 
+// The lowest byte of a number.
+fn put_byte(to: &mut [u8], at: usize, number: u32) -> usize
+    requires { ⌜ at < length (now to) ⌝ }
+    ensures { λ r. ⌜ Put (now (to .entry)) at (number % 256 ∷ []) (now (to .exit)) r ⌝ }
+{
+    to[at] = (number % 256) as u8;
+    at + 1
+}
+
 // A number as four bytes, the lowest first.
 fn put_number(to: &mut [u8], at: usize, number: u32) -> usize
     requires { ⌜ at + 4 ≤ length (now to) ⌝ }
     ensures { λ r. ⌜ Put (now (to .entry)) at (fourBytes number) (now (to .exit)) r ⌝ }
 {
-    to[at] = (number % 256) as u8;
-    to[at + 1] = (number / 256 % 256) as u8;
-    to[at + 2] = (number / 65536 % 256) as u8;
-    to[at + 3] = (number / 16777216 % 256) as u8;
-    at + 4
+    let second = put_byte(to, at, number);
+    let third = put_byte(to, second, number / 256);
+    let fourth = put_byte(to, third, number / 65536);
+    put_byte(to, fourth, number / 16777216)
 }
 
 // Writes as many of the numbers as fit whole into `to` from `at` on, and answers the place after them; all else stays.
