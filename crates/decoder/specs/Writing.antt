@@ -1,14 +1,15 @@
 -- What the writers of the decoder come to: a reading in a text room and an error room, and the answer that tells of it.
-use Prim.Native.Nat.{ℕ}
+use Prim.Native.Nat.{ℕ, _+_, _≤_, _<_}
 use mathlib.Core.Path.{_≡_}
 use mathlib.Core.List.{List, []}
-use lib.ListN.{length}
+use lib.ListN.{length, drop}
 use lib.Seq.{sets}
 use Rattle.lists.specs.Bytes.{plainly}
 use Rattle.lists.specs.Rooms.{Put}
 use Rattle.standard.specs.declared.Context.{Context}
 use Rattle.standard.specs.Errors.{numbers}
-use Rattle.standard.specs.Reading.{stopOf, Reading, reading}
+use Rattle.standard.specs.NameList.{builtin}
+use Rattle.standard.specs.Reading.{stopOf, pieces, Reading, reading, _⊕_, joined}
 use Rattle.decoder.specs.declared.whole.Decoded.{Decoded}
 use Rattle.decoder.specs.Whole.{decoded, answerOf, textNamed, placeNamed}
 
@@ -21,6 +22,20 @@ pub record WroteBy (lay : List ℕ → List ℕ) (r : Reading) (text : List ℕ)
 -- The same in a room of numbers.
 abbrev pub Wrote : (r : Reading) (text : List ℕ) (w : ℕ) (text′ : List ℕ) (w′ : ℕ) (errors : List ℕ) (e : ℕ) (errors′ : List ℕ) (e′ : ℕ) → Type 0
 Wrote = WroteBy plainly
+
+-- What is read of s from at on.
+abbrev pub readFrom : Context → List ℕ → ℕ → Reading
+readFrom context s at = joined at (pieces builtin context (drop at s))
+
+-- The bytes of s from at to next were read, and what they give, with at most two errors, was written.
+pub record Advances (context : Context) (s : List ℕ) (at next : ℕ) (text : List ℕ) (w : ℕ) (text′ : List ℕ) (w′ : ℕ) (errors : List ℕ) (e : ℕ)
+    (errors′ : List ℕ) (e′ : ℕ) : Type 0 where
+  pub onward : at < next
+  pub there : next ≤ length s
+  pub gives : Reading
+  pub splits : readFrom context s at ≡ gives ⊕ readFrom context s next
+  pub wrote : Wrote gives text w text′ w′ errors e errors′ e′
+  pub few : e′ ≤ e + 4
 
 -- The answer as it is before anything is written.
 abbrev pub unreadOf : Context → List ℕ → (text errors : ℕ) → Decoded

@@ -12,6 +12,7 @@ use crate::classes::character_code;
 use crate::pieces::Piece;
 use crate::pieces::reference;
 use crate::stops::calls_for;
+use crate::writers::Reached;
 use crate::writers::lacks_room;
 use crate::writers::put_piece;
 use standard::Context;
@@ -29,13 +30,19 @@ fn least(a: usize, b: usize) -> usize
 }
 
 // The place in the chunk up to which it was read, and the place after its text.
-struct Copied {
-    at: usize,
-    text: usize,
+pub(crate) struct Copied {
+    pub at: usize,
+    pub text: usize,
 }
 
 // A run of plain bytes is copied while 64 bytes are free before each.
-fn copy_run(context: Context, chunk: &[u8], at: usize, text: &mut [u8], w: usize) -> Copied
+pub(crate) fn copy_run(
+    context: Context,
+    chunk: &[u8],
+    at: usize,
+    text: &mut [u8],
+    w: usize,
+) -> Copied
     requires { ⌜ (at ≤ length (now chunk)) × (w + 64 ≤ length (now text)) ⌝ }
     ensures { λ r. ⌜ Runs context (now (chunk .entry)) at (length (now (text .entry)) - w) (r .at)
         × Put (now (text .entry)) w (take (r .at - at) (drop at (now (chunk .entry)))) (now (text .exit)) (r .text) ⌝ }
@@ -122,13 +129,6 @@ fn has_room(size: usize, text: usize, errors: usize) -> bool
     (0 < size) & (64 + size <= text) & (8 + 2 * size <= errors)
 }
 
-// The place in the chunk up to which it was read, and the places after what was written.
-pub(crate) struct Skimmed {
-    pub at: usize,
-    pub text: usize,
-    pub errors: usize,
-}
-
 // The chunk from `from` on, where before bytes were taken before it and nothing is held: as far as it stands for itself and has room.
 pub(crate) fn skim(
     table: &[u8],
@@ -140,7 +140,7 @@ pub(crate) fn skim(
     w0: usize,
     errors: &mut [u32],
     e0: usize,
-) -> Skimmed
+) -> Reached
     requires { ⌜ (now table ≡ tableOf builtin) × (before + length (now chunk) ≤ 16777216) × (from ≤ length (now chunk))
         × (w0 ≤ length (now text)) × (e0 ≤ length (now errors)) ⌝ }
     ensures { λ r. ⌜ Skims context before (now (chunk .entry)) from (r .at) (now (text .entry)) w0 (now (text .exit)) (r .text)
@@ -151,7 +151,7 @@ pub(crate) fn skim(
     let mut e = e0;
     while at < chunk.len() {
         if lacks_room(text.len() - w, errors.len() - e) {
-            return Skimmed {
+            return Reached {
                 at,
                 text: w,
                 errors: e,
@@ -163,7 +163,7 @@ pub(crate) fn skim(
         let piece = alone(table, context, &chunk[at..]);
         let size = piece.size;
         if !has_room(size, text.len() - w, errors.len() - e) {
-            return Skimmed {
+            return Reached {
                 at,
                 text: w,
                 errors: e,
@@ -174,7 +174,7 @@ pub(crate) fn skim(
         e = next.errors;
         at += size;
     }
-    Skimmed {
+    Reached {
         at,
         text: w,
         errors: e,

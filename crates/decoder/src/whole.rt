@@ -1,19 +1,20 @@
 // A whole source at once.
 ghost use mathlib.Core.Path.{_≡_};
-ghost use Prim.Native.Nat.{_≤_, _+_, _*_};
+ghost use Prim.Native.Nat.{_≤_, _<_, _+_, _*_};
 ghost use lib.ListN.{length};
 ghost use Rattle.lists.specs.Bytes.{plainly, fours};
 ghost use Rattle.standard.specs.Names.{tableOf};
 ghost use Rattle.standard.specs.NameList.{builtin};
 ghost use Rattle.standard.specs.Reading.{decode};
-ghost use Rattle.decoder.specs.Writing.{WroteBy, Wrote, unreadOf, Reads};
+ghost use Rattle.decoder.specs.Writing.{WroteBy, Wrote, Advances, unreadOf, Reads};
 ghost use Rattle.decoder.specs.Whole.{Decodes, DecodesBytes};
 use crate::pieces::piece_at;
+use crate::skimming::copy_run;
 use crate::stops::find_stop;
+use crate::writers::Reached;
 use crate::writers::Written;
 use crate::writers::put_piece;
 use standard::Context;
-use standard::runs::plain_end;
 use standard::table::builtin_names;
 
 // The answer, text bytes written (or asked for, with 9), errors written, and place.
@@ -24,7 +25,42 @@ pub struct Decoded {
     pub place: u32,
 }
 
-// Writes the reading of a covered source: runs of plain bytes are copied at once, and each other piece is read.
+// Copies the plain bytes from `at` on, and writes the piece after them, if there is one.
+fn decode_next(
+    table: &[u8],
+    context: Context,
+    s: &[u8],
+    at: usize,
+    text: &mut [u8],
+    w: usize,
+    errors: &mut [u32],
+    e: usize,
+) -> Reached
+    requires { ⌜ (now table ≡ tableOf builtin) × (length (now s) ≤ 65536) × (at < length (now s))
+        × (w + 64 ≤ length (now text)) × (e + 4 ≤ length (now errors)) ⌝ }
+    ensures { λ r. ⌜ Advances context (now (s .entry)) at (r .at) (now (text .entry)) w (now (text .exit)) (r .text)
+        (now (errors .entry)) e (now (errors .exit)) (r .errors) ⌝ }
+{
+    let run = copy_run(context, s, at, text, w);
+    let from = run.at;
+    if from == s.len() {
+        return Reached {
+            at: from,
+            text: run.text,
+            errors: e,
+        };
+    }
+    let piece = piece_at(table, context, &s[from..]);
+    let after = from + piece.size;
+    let next = put_piece(text, run.text, errors, e, piece, from as u32);
+    Reached {
+        at: after,
+        text: next.text,
+        errors: next.errors,
+    }
+}
+
+// Writes the reading of a covered source.
 fn decode_pieces(
     table: &[u8],
     context: Context,
@@ -41,16 +77,10 @@ fn decode_pieces(
     let mut w: usize = 0;
     let mut e: usize = 0;
     while at < s.len() {
-        let from = plain_end(context, s, at);
-        w = rooms::copy(&s[at..from], text, w);
-        if from == s.len() {
-            return Written { text: w, errors: e };
-        }
-        let piece = piece_at(table, context, &s[from..]);
-        let next = put_piece(text, w, errors, e, piece, from as u32);
+        let next = decode_next(table, context, s, at, text, w, errors, e);
+        at = next.at;
         w = next.text;
         e = next.errors;
-        at = from + piece.size;
     }
     Written { text: w, errors: e }
 }
@@ -73,16 +103,10 @@ fn decode_pieces_bytes(
     let mut w: usize = 0;
     let mut e: usize = 0;
     while at < s.len() {
-        let from = plain_end(context, s, at);
-        w = rooms::copy(&s[at..from], text, w);
-        if from == s.len() {
-            return Written { text: w, errors: e };
-        }
-        let piece = piece_at(table, context, &s[from..]);
-        let next = put_piece(text, w, &mut few, 0, piece, from as u32);
+        let next = decode_next(table, context, s, at, text, w, &mut few, 0);
+        at = next.at;
         w = next.text;
         e = rooms::put_numbers(&few[..next.errors], errors, e);
-        at = from + piece.size;
     }
     Written { text: w, errors: e }
 }

@@ -129,6 +129,13 @@ pub(crate) struct Written {
     pub errors: usize,
 }
 
+// The place up to which was read, and the places after what was written.
+pub(crate) struct Reached {
+    pub at: usize,
+    pub text: usize,
+    pub errors: usize,
+}
+
 // Writes a piece that stands at place: its text at w, its errors at e.
 pub(crate) fn put_piece(
     text: &mut [u8],

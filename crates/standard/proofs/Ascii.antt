@@ -1,5 +1,5 @@
 -- Runs of ASCII bytes: each is a character of its own, so a run is read at once.
-use Prim.Native.Nat.{ℕ, suc, _+_, _<_}
+use Prim.Native.Nat.{ℕ, zero, suc, _+_, _≤_, _<_}
 use Prim.Native.Char.{code}
 use mathlib.Core.Path.{_≡_, refl, _∙_, ap}
 use mathlib.Core.List.{List, [], _∷_}
@@ -7,9 +7,9 @@ use mathlib.Core.Bool.{Bool, true, false, not, _||_, _&&_}
 use mathlib.Core.Logic.{_⊎_, inl, inr}
 use native.Mathlib.Omega.{arith}
 use lib.Dec.{eqb}
-use lib.ListN.{length, drop}
+use lib.ListN.{length, take, drop}
 use borrow.Author.Tests.{lt-ltb, eq-eqb, eqb-true, not-true}
-use Rattle.lists.specs.Notation.{between, front}
+use Rattle.lists.specs.Notation.{between, front, every}
 use Rattle.lists.proofs.Choice.{and-true, between-true}
 use Rattle.lists.proofs.Fronts.{front-induction}
 use Rattle.standard.specs.declared.Context.{Context}
@@ -88,21 +88,14 @@ unfolding piecesFrom joined placed
 joined-plain names context b s offset h = rw (plain-piece names context b s h)
 
 -- A run of them is its own text.
-pub joined-run : (names : List Name) (context : Context) (p : ℕ → Bool) → ((b : ℕ) → p b ≡ true → Plain b) → (s : List ℕ) (offset : ℕ)
-    → joined offset (pieces names context s)
-    ≡ reading (front p s) [] ⊕ joined (offset + length (front p s)) (pieces names context (drop (length (front p s)) s))
-joined-run names context p plain =
-    front-induction p
-    (λ u s. (offset : ℕ) → joined offset (pieces names context s)
-    ≡ reading u [] ⊕ joined (offset + length u) (pieces names context (drop (length u) s)))
-    (λ s offset. ap (λ (n : ℕ). joined n (pieces names context s)) (omega arith)) more
-  where
-    more : (b : ℕ) (u s : List ℕ) → p b ≡ true
-        → ((offset : ℕ) → joined offset (pieces names context s)
-        ≡ reading u [] ⊕ joined (offset + length u) (pieces names context (drop (length u) s)))
-        → (offset : ℕ) → joined offset (pieces names context (b ∷ s))
-        ≡ reading (b ∷ u) [] ⊕ joined (offset + suc (length u)) (pieces names context (drop (length u) s))
-    more b u s e rest offset =
-        joined-plain names context b s offset (plain b e)
-        ∙ ap (λ (r : Reading). reading (b ∷ []) [] ⊕ r)
-        (rest (offset + 1) ∙ ap (λ (n : ℕ). reading u [] ⊕ joined n (pieces names context (drop (length u) s))) (omega arith))
+pub joined-run : (names : List Name) (context : Context) (p : ℕ → Bool) → ((b : ℕ) → p b ≡ true → Plain b) → (n : ℕ) (s : List ℕ) (offset : ℕ)
+    → n ≤ length s → every p (take n s) ≡ true
+    → joined offset (pieces names context s) ≡ reading (take n s) [] ⊕ joined (offset + n) (pieces names context (drop n s))
+joined-run names context p plain zero s offset h e = ap (λ (n : ℕ). joined n (pieces names context s)) (omega arith)
+joined-run names context p plain (suc n) [] offset h e = absurd (omega arith)
+joined-run names context p plain (suc n) (b ∷ s) offset h e =
+    let w = and-true (p b) (every p (take n s)) e in
+    joined-plain names context b s offset (plain b (w .0))
+    ∙ ap (λ (r : Reading). reading (b ∷ []) [] ⊕ r)
+    (joined-run names context p plain n s (offset + 1) (omega arith) (w .1)
+    ∙ ap (λ (k : ℕ). reading (take n s) [] ⊕ joined k (pieces names context (drop n s))) (omega arith))

@@ -1,19 +1,15 @@
 -- The invariant: what was read so far is written, and with what is still to be read from `at` on it is the whole reading.
-use Prim.Native.Nat.{_-_, _<_}
+use Prim.Native.Nat.{_-_}
 use native.Mathlib.Omega.{arith}
-use lib.ListN.{length, length-drop}
-use borrow.Author.Needs.{needs}
+use lib.ListN.{length}
 use Rattle.lists.specs.Bytes.{plainly}
 use Rattle.lists.proofs.Layings.{laid-plainly}
-use Rattle.standard.specs.NameList.{builtin}
-use Rattle.standard.proofs.Narrow.{builtin-narrow}
-use Rattle.standard.proofs.Skips.{rest-from}
-use Rattle.decoder.proofs.Walk.{Going, going-start, going-room, going-end, turn-run, turn-piece, run-there, piece-some}
+use Rattle.decoder.proofs.Walk.{Going, going-start, going-on, going-room, going-end}
 use Rattle.decoder.proofs.whole.decode_pieces.Statement.{statement}
 use Rattle.decoder.proofs.whole.decode_pieces.Tie as tie
 
 abbrev Inv-loop : tie.InvT-loop
-Inv-loop table context s text₀ errors₀ at₀ w₀ e₀ text errors at w e = Going plainly builtin context s text₀ errors₀ at text w errors e
+Inv-loop table context s text₀ errors₀ at₀ w₀ e₀ text errors at w e = Going plainly context s text₀ errors₀ at text w errors e
 
 abbrev μ-loop : tie.MeasureT-loop
 μ-loop table context s text₀ errors₀ at₀ w₀ e₀ text errors at w e = length s - at
@@ -21,127 +17,29 @@ abbrev μ-loop : tie.MeasureT-loop
 loop-holds : tie.Need-loop-holds Inv-loop μ-loop
 loop-holds c = going-start laid-plainly
 
-plain-end-requires : tie.Need-plain-end-requires Inv-loop μ-loop
-plain-end-requires c κs = search needs
+decode-next-requires : tie.Need-decode-next-requires Inv-loop μ-loop
+decode-next-requires c κs =
+    let l = c .before .before .before in
+    let a = c .before .before .before .before .before .before .before .before .pre in
+    let r = going-room laid-plainly (l .loop .inv) in
+    (a .0, a .1, omega arith, omega (arith, r .0, r .2, a .2), omega (arith, r .1, r .3, a .3))
 
-sub-copy : tie.Need-sub-copy Inv-loop μ-loop
-sub-copy c = omega (arith, c .plain-end .ensures)
-
-part-copy-start : tie.Need-part-copy-start Inv-loop μ-loop
-part-copy-start c = omega (arith, c .plain-end .ensures)
-
-part-copy-end : tie.Need-part-copy-end Inv-loop μ-loop
-part-copy-end c =
-    let l = c .before .before in
-    omega (arith, run-there laid-plainly (l .before .before .before .before .before .pre .2) (l .loop .inv) (c .plain-end .ensures))
-
-copy-requires : tie.Need-copy-requires Inv-loop μ-loop
-copy-requires c κs = search needs
-
-same-length : tie.Need-same-length Inv-loop μ-loop
-same-length c =
-    let t = c in
-    let f = t .before .before .before .before .before .before .plain-end in
-    let l = t .before .before .before .before .before .before .before .before in
-    let a = l .before .before .before .before .before in
-    let g = turn-run laid-plainly (a .pre .2) (l .loop .inv) (f .ensures) (t .before .before .before .copy .ensures) in
-    going-room laid-plainly g builtin-narrow .2
-
-same-length-2 : tie.Need-same-length-2 Inv-loop μ-loop
-same-length-2 c = going-room laid-plainly (c .before .before .before .before .before .before .before .before .loop .inv) builtin-narrow .3
-
-returns : tie.Need-returns Inv-loop μ-loop
-returns c =
-    let t = c in
-    let f = t .before .before .before .before .before .before .plain-end in
-    let l = t .before .before .before .before .before .before .before .before in
-    let a = l .before .before .before .before .before in
-    let g = turn-run laid-plainly (a .pre .2) (l .loop .inv) (f .ensures) (t .before .before .before .copy .ensures) in
-    going-end laid-plainly g (omega arith)
-
-sub-piece-at : tie.Need-sub-piece-at Inv-loop μ-loop
-sub-piece-at c =
-    let t = c in
-    let f = t .before .before .before .before .before .before .plain-end in
-    let l = t .before .before .before .before .before .before .before .before in
-    let a = l .before .before .before .before .before in
-    run-there laid-plainly (a .pre .2) (l .loop .inv) (f .ensures)
-
-part-piece-at-start : tie.Need-part-piece-at-start Inv-loop μ-loop
-part-piece-at-start c =
-    let t = c in
-    let f = t .before .before .before .before .before .before .plain-end in
-    let l = t .before .before .before .before .before .before .before .before in
-    let a = l .before .before .before .before .before in
-    omega (arith, run-there laid-plainly (a .pre .2) (l .loop .inv) (f .ensures))
-
-part-piece-at-end : tie.Need-part-piece-at-end Inv-loop μ-loop
-part-piece-at-end c = search needs
-
-piece-at-requires : tie.Need-piece-at-requires Inv-loop μ-loop
-piece-at-requires c κs =
-    let t = c .before in
-    let f = t .before .before .before .before .before .before .plain-end in
-    let l = t .before .before .before .before .before .before .before .before in
-    let a = l .before .before .before .before .before in
-    let h = run-there laid-plainly (a .pre .2) (l .loop .inv) (f .ensures) in
-    rw rest-from (simp length-drop (omega arith))
-
-cast-put-piece : tie.Need-cast-put-piece Inv-loop μ-loop
-cast-put-piece c =
-    let t = c .before .before .before .before in
-    let f = t .before .before .before .before .before .before .plain-end in
-    let l = t .before .before .before .before .before .before .before .before in
-    let a = l .before .before .before .before .before in
-    omega (arith, a .pre .1, run-there laid-plainly (a .pre .2) (l .loop .inv) (f .ensures))
-
-put-piece-requires : tie.Need-put-piece-requires Inv-loop μ-loop
-put-piece-requires c κs =
-    let t = c .before .before .before .before in
-    let f = t .before .before .before .before .before .before .plain-end in
-    let l = t .before .before .before .before .before .before .before .before in
-    let a = l .before .before .before .before .before in
-    let g = turn-run laid-plainly (a .pre .2) (l .loop .inv) (f .ensures) (t .before .before .before .copy .ensures) in
-    let r = going-room laid-plainly g builtin-narrow in
-    (omega (arith, r .0, r .2, a .pre .2), omega (arith, r .1, r .3, a .pre .3))
+loop-less : tie.Need-loop-less Inv-loop μ-loop
+loop-less c = let n = c .before .before .before .before .decode-next .ensures in omega (arith, n .onward, n .there)
 
 loop-again : tie.Need-loop-again Inv-loop μ-loop
 loop-again c =
-    let t = c .before .before .before .before .before .before .before .before .before .before in
-    let f = t .before .before .before .before .before .before .plain-end in
-    let l = t .before .before .before .before .before .before .before .before in
-    let a = l .before .before .before .before .before in
-    let h = run-there laid-plainly (a .pre .2) (l .loop .inv) (f .ensures) in
-    let more : f .result < length (a .args .s .now) = omega arith in
-    let g = turn-run laid-plainly (a .pre .2) (l .loop .inv) (f .ensures) (t .before .before .before .copy .ensures) in
-    let q = c .before .before .before .before .before .before .before .before .piece-at in
-    turn-piece laid-plainly (a .pre .2) (q .result) g (a .pre .0) (q .ensures) more (c .before .before .before .before .before .put-piece .ensures .0)
+    let n = c .before .before .before .before .decode-next .ensures in
+    going-on laid-plainly (c .before .before .before .before .before .before .before .before .loop .inv) n (n .wrote)
 
-add-at : tie.Need-add-at Inv-loop μ-loop
-add-at c =
-    let m = c .before .before .before .before .before .before .before .before .before .before .before in
-    let a = m .before .before .before .before .before .before .before .before .before .before .before .before in
-    omega (arith, a .pre .1, loop-again c .there)
+same-length : tie.Need-same-length Inv-loop μ-loop
+same-length c = going-room laid-plainly (c .before .loop .inv) .2
 
-loop-less : tie.Need-loop-less Inv-loop μ-loop
-loop-less c =
-    let t = c .before .before .before .before .before .before .before .before .before .before in
-    let f = t .before .before .before .before .before .before .plain-end in
-    let a = t .before .before .before .before .before .before .before .before .before .before .before .before .before in
-    let q = c .before .before .before .before .before .before .before .before .piece-at in
-    let h = run-there laid-plainly (a .pre .2) (t .before .before .before .before .before .before .before .before .loop .inv) (f .ensures) in
-    let more : f .result < length (a .args .s .now) = omega arith in
-    let some = piece-some (a .args .context) (a .args .s .now) (f .result) (q .result) (a .pre .0) (q .ensures) more in
-    omega (arith, f .ensures, loop-again c .there, some)
+same-length-2 : tie.Need-same-length-2 Inv-loop μ-loop
+same-length-2 c = going-room laid-plainly (c .before .loop .inv) .3
 
-same-length-3 : tie.Need-same-length-3 Inv-loop μ-loop
-same-length-3 c = going-room laid-plainly (c .before .loop .inv) builtin-narrow .2
-
-same-length-4 : tie.Need-same-length-4 Inv-loop μ-loop
-same-length-4 c = going-room laid-plainly (c .before .loop .inv) builtin-narrow .3
-
-returns-2 : tie.Need-returns-2 Inv-loop μ-loop
-returns-2 c = going-end laid-plainly (c .before .loop .inv) (omega arith)
+returns : tie.Need-returns Inv-loop μ-loop
+returns c = going-end laid-plainly (c .before .loop .inv) (omega arith)
 
 pub decode-pieces-spec : {M : Type 1} → statement M
 decode-pieces-spec =
@@ -150,23 +48,9 @@ decode-pieces-spec =
     Inv-loop
     μ-loop
     loop-holds
-    plain-end-requires
-    sub-copy
-    part-copy-start
-    part-copy-end
-    copy-requires
-    same-length
-    same-length-2
-    returns
-    sub-piece-at
-    part-piece-at-start
-    part-piece-at-end
-    piece-at-requires
-    cast-put-piece
-    put-piece-requires
-    add-at
+    decode-next-requires
     loop-less
     loop-again
-    same-length-3
-    same-length-4
-    returns-2)
+    same-length
+    same-length-2
+    returns)
