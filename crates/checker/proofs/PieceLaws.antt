@@ -53,7 +53,7 @@ use Rattle.standard.proofs.FrontPiece.{
   first-character,
 }
 use Rattle.checker.specs.declared.pieces.Piece.{Piece}
-use Rattle.checker.specs.Pieces.{codesOf, pieceOf, oneOf, keeps}
+use Rattle.checker.specs.Pieces.{codesOf, pieceOf, oneOf, keepsText}
 use Rattle.checker.proofs.Peeks.{next-peek, next-seen, next-met, next-missed, peek-within}
 
 -- A piece of one character.
@@ -172,16 +172,16 @@ module _ (names : List Name) (context : Context) (s : List ℕ) (from : ℕ) {fo
 
     module _ (unclosed : getD s (from + found .len - 1) 0 ≢ code ";") {seen : ℕ} (is : seen ≡ getD s (from + found .len) 256) where
       -- It is none, and what is seen after it tells whether it stays text.
-      staying : staysText context (drop (found .len) (drop from s)) ≡ keeps context seen
+      staying : staysText context (drop (found .len) (drop from s)) ≡ keepsText context seen
       staying =
           rw (drop-drop (found .len) from s, next-peek (λ c. eqb c (code "=") || alphanumeric c) s (from + found .len) refl, is)
 
-      pub name-stays : keeps context seen ≡ true
+      pub name-stays : keepsText context seen ≡ true
           → pieceOf (oneOf 1 0x26 false 0) ≡ namedBy context (longest names (drop from s)) (drop from s)
       name-stays e =
           rw (← found-is) (alone 0 ∙ sym (by-staying context found (drop from s) some (λ f. unclosed (sym last-is ∙ f)) (staying ∙ e)))
 
-      pub name-open : keeps context seen ≡ false → pieceOf (foundOf found true) ≡ namedBy context (longest names (drop from s)) (drop from s)
+      pub name-open : keepsText context seen ≡ false → pieceOf (foundOf found true) ≡ namedBy context (longest names (drop from s)) (drop from s)
       name-open e = rw (← found-is, by-open context found (drop from s) some (λ f. unclosed (sym last-is ∙ f)) (staying ∙ e), add-one)
 
 -- The piece at `at` goes by the byte there.

@@ -19,7 +19,7 @@ use Rattle.checker.specs.declared.rows.Judged.{Judged}
 use Rattle.checker.specs.declared.verdicts.Verdict as code
 use Rattle.checker.specs.Transcript.{row, rowsOf, Left, right, remains, spent, Verdict, verdict, judge, verdictOn}
 use Rattle.checker.specs.Runs.{Alike, PlainRow, unitRow, UnitRows, PlainRows}
-use Rattle.checker.specs.Meeting.{leftAt, Judges, Verdicts, Ends}
+use Rattle.checker.specs.Meeting.{leftAt, Judges, Verdicts, LastVerdict}
 use Rattle.checker.proofs.RowLaws.{judged-plain}
 
 -- The first of the rows that are left.
@@ -196,10 +196,10 @@ verdicts-by : {v : Verdict} {r : code.Verdict} {reason at-row : ℕ} → Verdict
 verdicts-by w e = record { reason-is = e .0 ∙ w .reason-is; row-is = e .1 ∙ w .row-is }
 
 -- After the last row, the verdict is by whether something remains.
-pub ended : {names : List Name} {context : Context} {s rows text errors : List ℕ} {next i at t e : ℕ} {r : code.Verdict}
-    → RowByRow names context s rows text errors next i at t e → length rows ≤ next → Ends s at text t errors e i r
+pub after-last : {names : List Name} {context : Context} {s rows text errors : List ℕ} {next i at t e : ℕ} {r : code.Verdict}
+    → RowByRow names context s rows text errors next i at t e → length rows ≤ next → LastVerdict s at text t errors e i r
     → Verdicts (verdictOn names context s rows text errors) r
-ended {names} {context} {s} {rows} {text} {errors} {next} {i} {at} {t} {e} {r} w over d =
+after-last {names} {context} {s} {rows} {text} {errors} {next} {i} {at} {t} {e} {r} w over d =
     ⊎-elim (λ x. source (eqb-true at (length s) x))
     (λ f. let unlike = eqb-false at (length s) f in verdicts-by (source-remains w over unlike) (d .some (inl unlike))) (test? (eqb at (length s)))
   where

@@ -68,6 +68,6 @@ pub record Verdicts (v : Verdict) (r : code.Verdict) : Type 0 where
   pub row-is : r .row ≡ v .at-row
 
 -- The verdict after the last of so many rows, where these places are reached: accepted where nothing remains.
-pub record Ends (s : List ℕ) (at : ℕ) (text : List ℕ) (t : ℕ) (errors : List ℕ) (e : ℕ) (at-row : ℕ) (r : code.Verdict) : Type 0 where
+pub record LastVerdict (s : List ℕ) (at : ℕ) (text : List ℕ) (t : ℕ) (errors : List ℕ) (e : ℕ) (at-row : ℕ) (r : code.Verdict) : Type 0 where
   pub all : at ≡ length s → t ≡ length text → e ≡ length errors → (r .reason ≡ right) × (r .row ≡ 0)
   pub some : ((at ≡ length s → ⊥) ⊎ ((t ≡ length text → ⊥) ⊎ (e ≡ length errors → ⊥))) → (r .reason ≡ remains) × (r .row ≡ at-row)

@@ -26,5 +26,5 @@ oneOf size char unclosed error =
     record { size = size; reference = record { chars = char ∷ 0 ∷ []; «num_chars» = 1 }; unclosed = unclosed; code = error }
 
 -- A name without `;` is no reference before c.
-abbrev pub keeps : Context → ℕ → Bool
-keeps context c = inAttribute context && (eqb c (code "=") || alphanumeric c)
+abbrev pub keepsText : Context → ℕ → Bool
+keepsText context c = inAttribute context && (eqb c (code "=") || alphanumeric c)

@@ -7,7 +7,7 @@ ghost use Rattle.standard.specs.Classes.{alphanumeric};
 ghost use Rattle.standard.specs.Names.{records, longest};
 ghost use Rattle.standard.specs.Pieces as standard;
 ghost use Rattle.standard.specs.Utf8.{readChar};
-ghost use Rattle.checker.specs.Pieces.{pieceOf, oneOf, keeps};
+ghost use Rattle.checker.specs.Pieces.{pieceOf, oneOf, keepsText};
 use crate::classes::character_code;
 use crate::classes::letter_or_digit;
 use crate::classes::peek;
@@ -88,7 +88,7 @@ fn letters_end(s: &[u8], from: usize) -> usize
 
 // Whether a name without `;` is no reference before c: in an attribute, `=` or a letter or digit.
 fn keeps_text(context: Context, c: u32) -> bool
-    ensures { λ r. ⌜ r ≡ keeps context c ⌝ }
+    ensures { λ r. ⌜ r ≡ keepsText context c ⌝ }
 {
     match context {
         Context::Text => false,

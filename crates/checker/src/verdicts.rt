@@ -4,7 +4,7 @@ ghost use Prim.Native.Nat.{_≤_, _%_};
 ghost use lib.ListN.{length};
 ghost use Rattle.standard.specs.Names.{records};
 ghost use Rattle.checker.specs.Transcript.{verdictOn};
-ghost use Rattle.checker.specs.Meeting.{lent, Verdicts, Ends};
+ghost use Rattle.checker.specs.Meeting.{lent, Verdicts, LastVerdict};
 use crate::blocks::plain_rows;
 use crate::meeting::count;
 use crate::meeting::number_at;
@@ -28,7 +28,7 @@ fn last_verdict(
     e: usize,
     row: u32,
 ) -> Verdict
-    ensures { λ r. ⌜ Ends (now (s .entry)) at (now (text .entry)) t (lent (now (errors .entry)) (now («error_bytes» .entry))) e row r ⌝ }
+    ensures { λ r. ⌜ LastVerdict (now (s .entry)) at (now (text .entry)) t (lent (now (errors .entry)) (now («error_bytes» .entry))) e row r ⌝ }
 {
     if at != s.len() {
         return Verdict { reason: 5, row };

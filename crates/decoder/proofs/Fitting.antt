@@ -39,9 +39,9 @@ use Rattle.decoder.specs.Machine.{
   Named,
   BogusName,
   Step,
-  after,
+  stepAfter,
   nothing,
-  plain,
+  textOnly,
   stepData,
   stepBogus,
   noDigits,
@@ -116,18 +116,18 @@ named-few context q found held next h =
     (λ f. whole (missing-semicolon-after-character-reference ∷ []) (omega arith))))
   where
     P : Piece → Type 0
-    P p = Few (suc (length held)) 1 (readingAt q p ⊕ plain (drop (p .size - 1) held))
+    P p = Few (suc (length held)) 1 (readingAt q p ⊕ textOnly (drop (p .size - 1) held))
 
     alone : (error : ℕ) → P (ampersand error)
     alone error =
-        few-join {a = 1} {c = length held} {d = 0} (readingAt q (ampersand error)) (plain held)
+        few-join {a = 1} {c = length held} {d = 0} (readingAt q (ampersand error)) (textOnly held)
         (piece-few q (ampersand error) (omega arith) (listed-few error)) (omega arith, omega arith) (omega arith) (omega arith)
 
     whole : (codes : List ℕ) → length codes ≤ 1 → P (piece (suc (found .len)) (charRefText (found .reference)) codes)
     whole codes few =
         let p = piece (suc (found .len)) (charRefText (found .reference)) codes in
         let rest = drop (p .size - 1) held in
-        few-join {c = length rest} {d = 0} (readingAt q p) (plain rest) (piece-few q p (h .1 builtin-narrow) few) (omega arith, omega arith)
+        few-join {c = length rest} {d = 0} (readingAt q p) (textOnly rest) (piece-few q p (h .1 builtin-narrow) few) (omega arith, omega arith)
         (omega (arith, h .0, length-drop (p .size - 1) held)) (omega arith)
 
 -- A character c with its own bytes, at place p.
@@ -157,7 +157,7 @@ module _ (p c : ℕ) (own : List ℕ) (short : length own ≤ 4) where
   Small s = Few 64 4 (s .gives)
 
   -- What is released, with the character where nothing is held then.
-  then-data : {a b : ℕ} (g : Reading) → Few a b g → a ≤ 60 → b ≤ 3 → Small (after g (stepData p c own))
+  then-data : {a b : ℕ} (g : Reading) → Few a b g → a ≤ 60 → b ≤ 3 → Small (stepAfter g (stepData p c own))
   then-data g x h k = few-join g (stepData p c own .gives) x data-few (omega arith) (omega arith)
 
   module _ (context : Context) where
@@ -172,7 +172,8 @@ module _ (p c : ℕ) (own : List ℕ) (short : length own ≤ 4) where
         (omega (arith, begins-short (held ++ own) b)) (omega arith))
         (λ f. (omega arith, omega arith)))
         (λ f. if-both Small (eqb (longest builtin held .len) 0) _ _
-        (λ t. few-join {a = 32} {b = 0} (plain (code "&" ∷ held)) (stepBogus q p c own .gives) (omega arith, omega arith) (bogus-few q) (omega arith)
+        (λ t. few-join {a = 32} {b = 0} (textOnly (code "&" ∷ held)) (stepBogus q p c own .gives) (omega arith, omega arith) (bogus-few q)
+        (omega arith)
         (omega arith))
         (λ f. then-data (finishNamed context q (longest builtin held) held own)
         (named-few context q (longest builtin held) held own (longest-fits builtin held)) (omega arith) (omega arith)))
@@ -187,7 +188,7 @@ module _ (p c : ℕ) (own : List ℕ) (short : length own ≤ 4) where
     step-few (Begin q) f =
         if-both Small (eqb c (code "#")) _ _ (λ t. (omega arith, omega arith))
         (λ f. if-both Small (alphanumeric c) _ _ (λ t. in-name-few q [] (omega arith))
-        (λ f. then-data {a = 1} {b = 0} (plain (code "&" ∷ [])) (omega arith, omega arith) (omega arith) (omega arith)))
+        (λ f. then-data {a = 1} {b = 0} (textOnly (code "&" ∷ [])) (omega arith, omega arith) (omega arith) (omega arith)))
     step-few (Octothorpe q) f =
         if-both Small (eqb c (code "x") || eqb c (code "X")) _ _ (λ x. (omega arith, omega arith))
         (λ f. if-both Small (isDigit 10 c) _ _ (λ d. (omega arith, omega arith))

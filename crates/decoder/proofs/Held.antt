@@ -20,9 +20,9 @@ use Rattle.standard.specs.Pieces.{piece, ampersand, numbered, digitsThen, digit
 use Rattle.standard.specs.Reading.{Reading, reading, readingAt, _⊕_}
 use Rattle.standard.proofs.Ascii.{Plain}
 use Rattle.standard.proofs.Stopped.{meaning-from}
-use Rattle.decoder.specs.Machine.{plain, noDigits, addDigit, finishNumeric, finishNamed}
+use Rattle.decoder.specs.Machine.{textOnly, noDigits, addDigit, finishNumeric, finishNamed}
 use Rattle.decoder.proofs.Looks.{is-x, reference-plain}
-use Rattle.decoder.proofs.Tidy.{Tidy, Alphanumerics, none-found, closed, closed-length}
+use Rattle.decoder.proofs.Tidy.{Tidy, Alphanumerics, none-found, closed-longest, closed-length}
 use Rattle.decoder.proofs.Unfolding.{all-append, readFrom, read-plains, read-held}
 use Rattle.decoder.proofs.Means.{
   oneIf,
@@ -70,7 +70,7 @@ module _ (names : List Name) (context : Context) where
 
   -- An unknown name goes on with a letter or digit.
   pub bogus-more : (q p c : ℕ) (t : List ℕ) → alphanumeric c ≡ true
-      → bogusMean names context q p (c ∷ t) ≡ plain (c ∷ []) ⊕ bogusMean names context q (p + 1) t
+      → bogusMean names context q p (c ∷ t) ≡ textOnly (c ∷ []) ⊕ bogusMean names context q (p + 1) t
   unfolding bogusMean unknownRest front
   bogus-more q p c t e =
       rw e (ap (λ (r : Reading). unknown q (unknownRest t) ⊕ r) (read-plains names context p (c ∷ []) t (reference-plain c (rw e), tt)))
@@ -132,16 +132,16 @@ module _ (names : List Name) (context : Context) where
 
   -- An `&` that no letter, digit or `#` follows stands for itself.
   pub ampersand-read : (q : ℕ) (s : List ℕ) → Tidy names → next (code "#") s ≡ false → nextIs alphanumeric s ≡ false
-      → whole q (code "&" ∷ s) ≡ plain (code "&" ∷ []) ⊕ whole (suc q) s
+      → whole q (code "&" ∷ s) ≡ textOnly (code "&" ∷ []) ⊕ whole (suc q) s
   unfolding unknownName placed
   ampersand-read q s tidy e f =
       read-held names context q [] s (ampersand no-error) tt
       (by-name s e ∙ by-none (longest names s) s (none-found names s tidy f) ∙ rw f) (omega arith) (omega arith)
-      ∙ ap (λ (n : ℕ). plain (code "&" ∷ []) ⊕ whole n s) (let i : suc (q + 0) ≡ suc q = omega arith in i)
+      ∙ ap (λ (n : ℕ). textOnly (code "&" ∷ []) ⊕ whole n s) (let i : suc (q + 0) ≡ suc q = omega arith in i)
 
   -- Letters and digits in which no name is found stand for themselves, and their error waits.
   pub none-read : (q : ℕ) (h s : List ℕ) → Alphanumerics h → nextIs alphanumeric (h ++ s) ≡ true → longest names (h ++ s) .len ≡ 0
-      → whole q (code "&" ∷ h ++ s) ≡ plain (code "&" ∷ h) ⊕ bogusMean names context q (suc (q + length h)) s
+      → whole q (code "&" ∷ h ++ s) ≡ textOnly (code "&" ∷ h) ⊕ bogusMean names context q (suc (q + length h)) s
   unfolding bogusMean placed
   none-read q h s al e f =
       read-held names context q h s (ampersand (if unknownRest s then unknown-named-character-reference else no-error)) (plain-held h al)
@@ -150,8 +150,9 @@ module _ (names : List Name) (context : Context) where
       (omega arith) (omega arith)
       ∙ go (unknownRest s)
     where
-      go : (t : Bool) → (readingAt q (ampersand (if t then unknown-named-character-reference else no-error)) ⊕ plain h) ⊕ whole (suc (q + length h)) s
-          ≡ plain (code "&" ∷ h) ⊕ (unknown q t ⊕ whole (suc (q + length h)) s)
+      go : (t : Bool)
+          → (readingAt q (ampersand (if t then unknown-named-character-reference else no-error)) ⊕ textOnly h) ⊕ whole (suc (q + length h)) s
+          ≡ textOnly (code "&" ∷ h) ⊕ (unknown q t ⊕ whole (suc (q + length h)) s)
       go true = refl
       go false = refl
 
@@ -190,4 +191,4 @@ module _ (names : List Name) (context : Context) where
       let long = closed-length names h tidy al e in
       found-read q k t [] f
       (all-append Plain h (code ";" ∷ []) (plain-held h al) (reference-plain (code ";") refl, tt)) (no-hash (k ++ t) first)
-      (closed names h t tidy al) (omega arith) (by-closed f h t long ∙ sym (by-closed f h [] long))
+      (closed-longest names h t tidy al) (omega arith) (by-closed f h t long ∙ sym (by-closed f h [] long))

@@ -20,7 +20,7 @@ use Rattle.decoder.proofs.Layer.{Own, own-byte, Calm, own-calm}
 use Rattle.decoder.proofs.HeldStates.{
   idle,
   heldOn,
-  Keeps,
+  SomethingHeld,
   Goes,
   over,
   on,
@@ -38,7 +38,7 @@ pub data Holding (names : List Name) (context : Context) (w : List ℕ) (g : Rea
   free : idle st ≡ true → ((t : List ℕ) → unheld names (w ++ t) ≡ w ++ unheld names t) → Holding names context w g st
   holds : (u r : List ℕ) → w ≡ u ++ code "&" ∷ r
       → ((t : List ℕ) → unheld names (u ++ code "&" ∷ t) ≡ u ++ unheld names (code "&" ∷ t)) → Calm r → g ≡ decode names context u
-      → Keeps names st → ((t : List ℕ) → heldAfter names (r ++ t) ≡ heldOn names st t) → Holding names context w g st
+      → SomethingHeld names st → ((t : List ℕ) → heldAfter names (r ++ t) ≡ heldOn names st t) → Holding names context w g st
 
 -- Bytes without an `&` are not held.
 calm-unheld : (names : List Name) (r t : List ℕ) → Calm r → unheld names (r ++ t) ≡ r ++ unheld names t

@@ -33,9 +33,9 @@ use Rattle.decoder.specs.Machine.{
   BogusName,
   Step,
   to,
-  after,
+  stepAfter,
   nothing,
-  plain,
+  textOnly,
   noDigits,
   addDigit,
   finishNumeric,
@@ -77,20 +77,20 @@ heldOn names (Named q held) t = heldName names (held ++ t)
 heldOn names (BogusName q) t = false
 
 -- Something is held, and is what the state says.
-abbrev pub Keeps : List Name → St → Type 0
-Keeps names Data = ⊥
-Keeps names AfterCr = ⊥
-Keeps names (Begin q) = Unit {0}
-Keeps names (Octothorpe q) = Unit {0}
-Keeps names (HexBegin q letter) = Unit {0}
-Keeps names (Numeric q intro base value) = base ≤ 16
-Keeps names (Named q held) = Alphanumerics held × (begins names held ≡ true)
-Keeps names (BogusName q) = ⊥
+abbrev pub SomethingHeld : List Name → St → Type 0
+SomethingHeld names Data = ⊥
+SomethingHeld names AfterCr = ⊥
+SomethingHeld names (Begin q) = Unit {0}
+SomethingHeld names (Octothorpe q) = Unit {0}
+SomethingHeld names (HexBegin q letter) = Unit {0}
+SomethingHeld names (Numeric q intro base value) = base ≤ 16
+SomethingHeld names (Named q held) = Alphanumerics held × (begins names held ≡ true)
+SomethingHeld names (BogusName q) = ⊥
 
 -- A step on the own bytes of a character that is no `&`: what is held is over, or it goes on and nothing is released.
 pub data Goes (names : List Name) (st : St) (own : List ℕ) (r : Step) : Type 0 where
   over : idle (r .next) ≡ true → ((t : List ℕ) → heldOn names st (own ++ t) ≡ false) → Goes names st own r
-  on : r .gives ≡ nothing → Keeps names (r .next) → ((t : List ℕ) → heldOn names st (own ++ t) ≡ heldOn names (r .next) t)
+  on : r .gives ≡ nothing → SomethingHeld names (r .next) → ((t : List ℕ) → heldOn names st (own ++ t) ≡ heldOn names (r .next) t)
       → Goes names st own r
 
 -- Where a test fails at the next element, not every element passes.
@@ -115,7 +115,7 @@ data-idle : (p c : ℕ) (own : List ℕ) → eqb c (code "&") ≡ false → idle
 unfolding stepData
 data-idle p c own e = go (eqb c (code "\r"))
   where
-    go : (u : Bool) → idle ((if u then to (plain (code "\n" ∷ [])) AfterCr
+    go : (u : Bool) → idle ((if u then to (textOnly (code "\n" ∷ [])) AfterCr
         else if eqb c (code "&") then to nothing (Begin p)
         else to (reading own (placed p (listed (characterCode c)))) Data) .next) ≡ true
     go true = refl
@@ -157,7 +157,7 @@ idle-finish names context (Named q held) i = no-way (sym i)
 idle-finish names context (BogusName q) i = refl
 
 -- What is held is held with nothing after it.
-pub held-now : (names : List Name) (st : St) → Keeps names st → heldOn names st [] ≡ true
+pub held-now : (names : List Name) (st : St) → SomethingHeld names st → heldOn names st [] ≡ true
 held-now names Data k = absurd k
 held-now names AfterCr k = absurd k
 held-now names (Begin q) k = refl
@@ -173,7 +173,7 @@ unfolding digitOf
 no-digit base few = le-ltb 16 base few
 
 -- With an `&` after it nothing is held.
-pub held-over : (names : List Name) (st : St) (t : List ℕ) → Tidy names → Keeps names st → heldOn names st (code "&" ∷ t) ≡ false
+pub held-over : (names : List Name) (st : St) (t : List ℕ) → Tidy names → SomethingHeld names st → heldOn names st (code "&" ∷ t) ≡ false
 held-over names Data t tidy k = absurd k
 held-over names AfterCr t tidy k = absurd k
 held-over names (Begin q) t tidy k = unheld-name names (code "&" ∷ t) (begins-ampersand names [] t tidy tt)
@@ -244,7 +244,7 @@ module _ (names : List Name) (context : Context) (tidy : Tidy names) where
       go : (t u : Bool) → eqb c (code "#") ≡ t → alphanumeric c ≡ u → Goes names (Begin q) own
           (if t then to nothing (Octothorpe q)
           else if u then stepNamed names context q [] p c own
-          else after (plain (code "&" ∷ [])) (stepData p c own))
+          else stepAfter (textOnly (code "&" ∷ [])) (stepData p c own))
       go true u i j =
           own-byte (λ c. eqb c (code "#")) (equal-ascii (code "#") (omega arith))
           (λ own. Goes names (Begin q) own (to nothing (Octothorpe q))) is i (on refl tt (λ t. rw i))
@@ -260,7 +260,7 @@ module _ (names : List Name) (context : Context) (tidy : Tidy names) where
       go : (t u : Bool) → isX c ≡ t → isDigit 10 c ≡ u → Goes names (Octothorpe q) own
           (if t then to nothing (HexBegin q c)
           else if u then to nothing (Numeric q (code "&" ∷ code "#" ∷ []) 10 (digitOf c))
-          else after (noDigits q (code "&" ∷ code "#" ∷ [])) (stepData p c own))
+          else stepAfter (noDigits q (code "&" ∷ code "#" ∷ [])) (stepData p c own))
       go true u i j =
           own-byte isX is-x-ascii (λ own. Goes names (Octothorpe q) own (to nothing (HexBegin q c))) is i (on refl tt (λ t. rw i))
       go false true i j =
@@ -274,7 +274,7 @@ module _ (names : List Name) (context : Context) (tidy : Tidy names) where
   -- One digit more, or none.
   digit-goes : (st : St) (base : ℕ) {own : List ℕ} {c : ℕ} (next : St) (r : Step) → base ≤ 16 → Own own c
       → ((t : List ℕ) → heldOn names st t ≡ every (isDigit base) t) → ((t : List ℕ) → heldOn names next t ≡ every (isDigit base) t)
-      → Keeps names next → idle (r .next) ≡ true → Goes names st own (if isDigit base c then to nothing next else r)
+      → SomethingHeld names next → idle (r .next) ≡ true → Goes names st own (if isDigit base c then to nothing next else r)
   digit-goes st base {own} {c} next r few is from goal keeps i = go (isDigit base c) refl
     where
       go : (t : Bool) → isDigit base c ≡ t → Goes names st own (if t then to nothing next else r)
@@ -285,7 +285,7 @@ module _ (names : List Name) (context : Context) (tidy : Tidy names) where
           over i (λ t. from (own ++ t) ∙ every-fails (isDigit base) is t (own-fails (isDigit base) (digit-ascii base few) is j t))
 
   -- What is held goes on or is over, in each state.
-  pub goes : (st : St) (p : ℕ) {own : List ℕ} {c : ℕ} → Keeps names st → Own own c → eqb c (code "&") ≡ false
+  pub goes : (st : St) (p : ℕ) {own : List ℕ} {c : ℕ} → SomethingHeld names st → Own own c → eqb c (code "&") ≡ false
       → Goes names st own (step names context st p c own)
   unfolding step
   goes Data p k is e = absurd k
@@ -313,17 +313,17 @@ module _ (names : List Name) (context : Context) (tidy : Tidy names) where
   named-ampersand q p h al = rw (begins-ampersand names h [] tidy al) (go (eqb (longest names h .len) 0) refl)
     where
       go : (u : Bool) → eqb (longest names h .len) 0 ≡ u
-          → (if u then after (plain (code "&" ∷ h)) (stepBogus q p (code "&") (code "&" ∷ []))
-          else after (finishNamed context q (longest names h) h (code "&" ∷ [])) (stepData p (code "&") (code "&" ∷ [])))
-          ≡ to (if u then plain (code "&" ∷ h) else finishNamed context q (longest names h) h []) (Begin p)
-      go true e = ap (λ (o : Reading). to o (Begin p)) (⊕-none (plain (code "&" ∷ h)))
+          → (if u then stepAfter (textOnly (code "&" ∷ h)) (stepBogus q p (code "&") (code "&" ∷ []))
+          else stepAfter (finishNamed context q (longest names h) h (code "&" ∷ [])) (stepData p (code "&") (code "&" ∷ [])))
+          ≡ to (if u then textOnly (code "&" ∷ h) else finishNamed context q (longest names h) h []) (Begin p)
+      go true e = ap (λ (o : Reading). to o (Begin p)) (⊕-none (textOnly (code "&" ∷ h)))
       go false e =
           ap (λ (o : Reading). to o (Begin p))
           (⊕-none (finishNamed context q (longest names h) h (code "&" ∷ []))
-          ∙ ap (λ (x : Piece). readingAt q x ⊕ plain (drop (x .size - 1) h)) (named-last (longest names h) h e (longest-fits names h .0)))
+          ∙ ap (λ (x : Piece). readingAt q x ⊕ textOnly (drop (x .size - 1) h)) (named-last (longest names h) h e (longest-fits names h .0)))
 
   -- An `&` settles what is held as the end does.
-  pub kept-ampersand : (st : St) (p : ℕ) → Keeps names st
+  pub kept-ampersand : (st : St) (p : ℕ) → SomethingHeld names st
       → step names context st p (code "&") (code "&" ∷ []) ≡ to (finish names context st) (Begin p)
   unfolding step stepData finish
   kept-ampersand Data p k = absurd k

@@ -124,12 +124,12 @@ is-x-ascii =
     or-ascii (λ c. eqb c (code "x")) (λ c. eqb c (code "X")) (equal-ascii (code "x") (omega arith)) (equal-ascii (code "X") (omega arith))
 
 -- A letter, a digit, `;` or `#`.
-abbrev pub inReference : ℕ → Bool
-inReference b = alphanumeric b || eqb b (code ";") || eqb b (code "#")
+abbrev pub afterAmpersand : ℕ → Bool
+afterAmpersand b = alphanumeric b || eqb b (code ";") || eqb b (code "#")
 
 -- A byte that is one is plain: computed for each ASCII byte.
 stands : ℕ → Bool
-stands b = not (inReference b) || standing b
+stands b = not (afterAmpersand b) || standing b
 
 -- All pass.
 all-stand : below 0x80 stands ≡ true
@@ -137,21 +137,21 @@ unfolding computing below stands
 all-stand = refl
 
 -- Only ASCII is one.
-reference-ascii : AsciiOnly inReference
+reference-ascii : AsciiOnly afterAmpersand
 reference-ascii =
     or-ascii (λ x. alphanumeric x || eqb x (code ";")) (λ x. eqb x (code "#"))
     (or-ascii alphanumeric (λ x. eqb x (code ";")) alphanumeric-ascii (equal-ascii (code ";") (omega arith)))
     (equal-ascii (code "#") (omega arith))
 
 -- Such a byte stands for itself without an error.
-pub reference-plain : (b : ℕ) → inReference b ≡ true → Plain b
+pub reference-plain : (b : ℕ) → afterAmpersand b ≡ true → Plain b
 unfolding stands
-reference-plain b e = standing-is b (rw e at (below-at 0x80 stands b all-stand (passes-ascii inReference reference-ascii b e)))
+reference-plain b e = standing-is b (rw e at (below-at 0x80 stands b all-stand (passes-ascii afterAmpersand reference-ascii b e)))
 
 -- `#` and that letter stand for themselves.
 pub x-plain : (letter : ℕ) → is-x letter ≡ true → All Plain (code "#" ∷ letter ∷ [])
 x-plain letter e = (reference-plain (code "#") refl, (reference-plain letter (go (eqb letter (code "x")) refl e), tt))
   where
-    go : (t : Bool) → eqb letter (code "x") ≡ t → (t || eqb letter (code "X")) ≡ true → inReference letter ≡ true
-    go true e f = ap inReference (eqb-true letter (code "x") e)
-    go false e f = ap inReference (eqb-true letter (code "X") f)
+    go : (t : Bool) → eqb letter (code "x") ≡ t → (t || eqb letter (code "X")) ≡ true → afterAmpersand letter ≡ true
+    go true e f = ap afterAmpersand (eqb-true letter (code "x") e)
+    go false e f = ap afterAmpersand (eqb-true letter (code "X") f)

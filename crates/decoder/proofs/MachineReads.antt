@@ -31,7 +31,7 @@ use Rattle.decoder.specs.Machine.{
   Numeric,
   Named,
   BogusName,
-  plain,
+  textOnly,
   noDigits,
   finishNumeric,
   finishNamed,
@@ -69,12 +69,12 @@ module _ (names : List Name) (context : Context) (tidy : Tidy names) where
       found = ap (longest names) (append-nil h)
 
       go : (t : Bool) → eqb (longest names h .len) 0 ≡ t → whole q (code "&" ∷ h ++ [])
-          ≡ (if t then plain (code "&" ∷ h) else finishNamed context q (longest names h) h [])
+          ≡ (if t then textOnly (code "&" ∷ h) else finishNamed context q (longest names h) h [])
       go true e =
           none-read names context q h [] al (next-held h [] al some)
           (ap (λ (f : Found). f .len) found ∙ eqb-true (longest names h .len) 0 e)
-          ∙ ap (λ (r : Reading). plain (code "&" ∷ h) ⊕ r) (bogus-end names context q (suc (q + length h)) [] refl refl)
-          ∙ ends (plain (code "&" ∷ h)) (suc (q + length h))
+          ∙ ap (λ (r : Reading). textOnly (code "&" ∷ h) ⊕ r) (bogus-end names context q (suc (q + length h)) [] refl refl)
+          ∙ ends (textOnly (code "&" ∷ h)) (suc (q + length h))
       go false e =
           found-read names context q h [] [] (longest names h) (plain-held h al) (no-hash (h ++ []) (next-held h [] al some)) found
           (longest-fits names h .0) refl
@@ -85,7 +85,7 @@ module _ (names : List Name) (context : Context) (tidy : Tidy names) where
   unfolding Mean Valid finish crMean
   end-ok Data p v = read-nothing names context p
   end-ok AfterCr p v = read-nothing names context (p + 0)
-  end-ok (Begin q) p v = ampersand-read names context q [] tidy refl refl ∙ ends (plain (code "&" ∷ [])) (suc q)
+  end-ok (Begin q) p v = ampersand-read names context q [] tidy refl refl ∙ ends (textOnly (code "&" ∷ [])) (suc q)
   end-ok (Octothorpe q) p v =
       no-digits-read names context q (code "#" ∷ []) [] (reference-plain (code "#") refl, tt) (decimal-none names context [] refl refl)
       ∙ ends (noDigits q (code "&" ∷ code "#" ∷ [])) (suc (q + 1))

@@ -20,7 +20,7 @@ use Rattle.standard.specs.Numbers.{digitOf, isDigit, numberFrom, meaningOf}
 use Rattle.standard.specs.Names.{Name}
 use Rattle.standard.specs.Pieces.{Piece, piece, numbered, digitsThen, digitsAt, unknownName, namedBy, pieceAt}
 use Rattle.standard.specs.Reading.{Reading, reading, readingAt, _⊕_}
-use Rattle.decoder.specs.Machine.{St, Data, AfterCr, Begin, Octothorpe, HexBegin, Numeric, Named, BogusName, plain, finishNumeric}
+use Rattle.decoder.specs.Machine.{St, Data, AfterCr, Begin, Octothorpe, HexBegin, Numeric, Named, BogusName, textOnly, finishNumeric}
 use Rattle.standard.proofs.Ascii.{Plain}
 use Rattle.decoder.proofs.Looks.{is-x, reference-plain}
 use Rattle.decoder.proofs.Tidy.{Alphanumerics, apart}
@@ -138,7 +138,7 @@ module _ (names : List Name) (context : Context) where
   Mean (BogusName q) p s = bogusMean q p s
 
   -- A CR is read as an LF.
-  pub cr-read : (p : ℕ) (s : List ℕ) → whole p (code "\r" ∷ s) ≡ plain (code "\n" ∷ []) ⊕ crMean (p + 1) s
+  pub cr-read : (p : ℕ) (s : List ℕ) → whole p (code "\r" ∷ s) ≡ textOnly (code "\n" ∷ []) ⊕ crMean (p + 1) s
   unfolding pieceAt crMean placed
   cr-read p s = read-piece names context p (code "\r" ∷ s) (line (next (code "\n") s)) (omega arith) refl ∙ go (next (code "\n") s)
     where
@@ -146,9 +146,9 @@ module _ (names : List Name) (context : Context) where
       line t = piece (if t then 2 else 1) (code "\n" ∷ []) []
 
       go : (t : Bool) → readingAt p (line t) ⊕ whole (p + line t .size) (drop (line t .size) (code "\r" ∷ s))
-          ≡ plain (code "\n" ∷ []) ⊕ whole (p + 1 + oneIf t) (drop (oneIf t) s)
-      go true = ap (λ (n : ℕ). plain (code "\n" ∷ []) ⊕ whole n (drop 1 s)) (let e : p + 2 ≡ p + 1 + 1 = omega arith in e)
-      go false = ap (λ (n : ℕ). plain (code "\n" ∷ []) ⊕ whole n s) (let e : p + 1 ≡ p + 1 + 0 = omega arith in e)
+          ≡ textOnly (code "\n" ∷ []) ⊕ whole (p + 1 + oneIf t) (drop (oneIf t) s)
+      go true = ap (λ (n : ℕ). textOnly (code "\n" ∷ []) ⊕ whole n (drop 1 s)) (let e : p + 2 ≡ p + 1 + 1 = omega arith in e)
+      go false = ap (λ (n : ℕ). textOnly (code "\n" ∷ []) ⊕ whole n s) (let e : p + 1 ≡ p + 1 + 0 = omega arith in e)
 
   -- No LF is passed over where none is next.
   pub cr-none : (p : ℕ) (s : List ℕ) → next (code "\n") s ≡ false → crMean p s ≡ whole p s

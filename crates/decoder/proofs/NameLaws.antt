@@ -12,7 +12,7 @@ use lib.ListN.{length, getD, drop}
 use lib.Seq.{drop-cons}
 use borrow.Author.Tests.{ne-eqb}
 use Rattle.lists.specs.Notation.{if_then_else_, next}
-use Rattle.lists.proofs.Fronts.{Stopped, Skipping, stopped-at, stopped-end, skipped}
+use Rattle.lists.proofs.Fronts.{FrontEmpty, Skipping, stopped-at, stopped-end, skipped}
 use Rattle.lists.proofs.Nexts.{next-at, next-none}
 use Rattle.standard.specs.declared.Context.{Context}
 use Rattle.standard.specs.declared.Context.the-variants.{Attribute}
@@ -26,7 +26,7 @@ use Rattle.decoder.proofs.PieceLaws.{alone}
 -- Letters and digits at the front of s, which end where those from `at` on do.
 module _ (s : List ℕ) (at : ℕ) (passed : Skipping alphanumeric s 0 at) where
   -- Where they end, the byte after them tells.
-  unknown-there : Stopped alphanumeric s at → unknownName s ≡ ltb 0 at && next (code ";") (drop at s)
+  unknown-there : FrontEmpty alphanumeric s at → unknownName s ≡ ltb 0 at && next (code ";") (drop at s)
   unknown-there stop = unknown-at s at (omega (arith, skipped passed stop))
 
   -- They end with the bytes.

@@ -35,8 +35,8 @@ use Rattle.decoder.specs.Machine.{
   BogusName,
   Step,
   to,
-  after,
-  plain,
+  stepAfter,
+  textOnly,
   stepData,
   stepBogus,
   finishNamed,
@@ -89,17 +89,17 @@ rest-none = refl
 
 -- A `;` after a name that is no name: its error is the `&`'s.
 closed-step : (q p c : ℕ) (h : List ℕ) → c ≡ code ";"
-    → after (reading (code "&" ∷ h) (error unknown-named-character-reference q ∷ [])) (stepData p c (encode c))
-    ≡ after (plain (code "&" ∷ h)) (stepBogus q p c (encode c))
+    → stepAfter (reading (code "&" ∷ h) (error unknown-named-character-reference q ∷ [])) (stepData p c (encode c))
+    ≡ stepAfter (textOnly (code "&" ∷ h)) (stepBogus q p c (encode c))
 unfolding stepData stepBogus encode octets characterCode placed
 closed-step q p c h e = rw e
 
 -- Of a name and what is next after it, a piece and what is left of the name.
 name-read : (q : ℕ) (h : List ℕ) (x : Piece) (y : standard.Piece) → pieceOf x ≡ y → 1 ≤ y .size
-    → readingAt q (pieceOf x) ⊕ plain (drop (x .size) (code "&" ∷ h)) ≡ readingAt q y ⊕ plain (drop (y .size - 1) h)
+    → readingAt q (pieceOf x) ⊕ textOnly (drop (x .size) (code "&" ∷ h)) ≡ readingAt q y ⊕ textOnly (drop (y .size - 1) h)
 name-read q h x y e some =
-    ap (λ (z : standard.Piece). readingAt q z ⊕ plain (drop (z .size) (code "&" ∷ h))) e
-    ∙ ap (λ (l : List ℕ). readingAt q y ⊕ plain l) (drop-past (y .size) (code "&") h some)
+    ap (λ (z : standard.Piece). readingAt q z ⊕ textOnly (drop (z .size) (code "&" ∷ h))) e
+    ∙ ap (λ (l : List ℕ). readingAt q y ⊕ textOnly l) (drop-past (y .size) (code "&") h some)
 
 -- A closed name is read as its characters.
 closed-read : (context : Context) (q : ℕ) (h : List ℕ) → Alphanumerics h → let k = h ++ code ";" ∷ [] in begins builtin k ≡ true
@@ -110,7 +110,7 @@ closed-read context q h al e =
     let found = longest builtin k in
     let long = closed-length builtin h builtin-tidy al e in
     let size : suc (found .len) - 1 ≡ length k = omega (arith, long) in
-    ap (λ (y : standard.Piece). readingAt q y ⊕ plain (drop (y .size - 1) k)) (by-closed builtin context found h [] long)
+    ap (λ (y : standard.Piece). readingAt q y ⊕ textOnly (drop (y .size - 1) k)) (by-closed builtin context found h [] long)
     ∙ ap (λ (l : List ℕ). reading (charRefText (found .reference) ++ l) []) (ap (λ (n : ℕ). drop n k) size ∙ drop-length k)
     ∙ ap (λ (l : List ℕ). reading l []) (append-nil (charRefText (found .reference)))
 
@@ -161,7 +161,7 @@ module _ {held : Held} {h : List ℕ} {c : ℕ} (on : NameHeld held h c) where
       -- Such a turn, by what the step is then.
       none-turns : {u : Bool} {t : Turn} {step : Step} → unknownRest (asciiOf c ∷ []) ≡ u → Follows x p t step
           → Turns held p t
-          (after (readingAt (held .place) (ampersand (if u then unknown-named-character-reference else no-error)) ⊕ plain h) step)
+          (stepAfter (readingAt (held .place) (ampersand (if u then unknown-named-character-reference else no-error)) ⊕ textOnly h) step)
       none-turns {u} e follows =
           let same = none-read e in
           turns (on .stored) follows refl (name-read (held .place) h x (ampersand (if u then 4 else 0)) same (omega arith))
@@ -188,7 +188,7 @@ module _ {held : Held} {h : List ℕ} {c : ℕ} (on : NameHeld held h c) where
               rest-closed (asciiOf c) (ascii-test alphanumeric alphanumeric-ascii c ∙ e)
               ∙ ascii-test (λ b. eqb b (code ";")) (equal-ascii (code ";") (omega arith)) c
 
-          go : (u : Bool) → eqb c (code ";") ≡ u → Turns held p t (after (plain (code "&" ∷ h)) (stepBogus (held .place) p c (encode c)))
+          go : (u : Bool) → eqb c (code ";") ≡ u → Turns held p t (stepAfter (textOnly (code "&" ∷ h)) (stepBogus (held .place) p c (encode c)))
           go true f = subst (Turns held p t) (closed-step (held .place) p c h (eqb-true c (code ";") f)) (none-turns (rest ∙ f) follows)
           go false f = rw (e, f) (none-turns (rest ∙ f) follows)
 
@@ -306,7 +306,7 @@ name-finish {held} {h} context x stored name some is = go (eqb (longest builtin 
         (ap unknownName (sym (append-nil h)) ∙ unknown-held h [] al (next-held h [] al some) ∙ rest-none)
 
     go : (t : Bool) → eqb (longest builtin h .len) 0 ≡ t → Releases held x
-        (if t then plain (code "&" ∷ h) else finishNamed context (held .place) (longest builtin h) h [])
+        (if t then textOnly (code "&" ∷ h) else finishNamed context (held .place) (longest builtin h) h [])
     go true e =
         let same = none (eqb-true (longest builtin h .len) 0 e) in
         releases stored refl (name-read (held .place) h x (ampersand no-error) same (omega arith))
@@ -314,6 +314,6 @@ name-finish {held} {h} context x stored name some is = go (eqb (longest builtin 
     go false e =
         releases stored refl
         (name-read (held .place) h x (namedBy context (longest builtin h) h) is (size .0)
-        ∙ ap (λ (l : List ℕ). let y = namedBy context (longest builtin h) l in readingAt (held .place) y ⊕ plain (drop (y .size - 1) h))
+        ∙ ap (λ (l : List ℕ). let y = namedBy context (longest builtin h) l in readingAt (held .place) y ⊕ textOnly (drop (y .size - 1) h))
         (sym (append-nil h)))
         (omega (arith, size, longest-fits builtin h .0, ap (λ (y : standard.Piece). y .size) is))

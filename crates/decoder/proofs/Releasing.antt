@@ -72,12 +72,12 @@ unfolding heldOf
 fit-count h fit = omega (arith, fits-count (stOf h) (fit .fits), ap (λ (x : Held). x .count) (fit .whole))
 
 -- The record with n bytes of a character and one byte more taken.
-pub keeps : (r : Stream) (own : List ℕ) (n : ℕ) → n ≤ length own → r .held ≡ heldOf (stOf (r .held)) → {part : List ℕ}
+pub keeps-byte : (r : Stream) (own : List ℕ) (n : ℕ) → n ≤ length own → r .held ≡ heldOf (stOf (r .held)) → {part : List ℕ}
     → part ≡ padded 3 (take n own)
     → record { context = r .context; held = r .held; part = part; «part_count» = n; taken = r .taken + 1 }
     ≡ recordOf (r .context) (atBy (stOf (r .held)) (take n own) (r .taken + 1))
 unfolding recordOf
-keeps r own n there held {part} is = λ i. record {
+keeps-byte r own n there held {part} is = λ i. record {
   context = r .context;
   held = held i;
   part = is i;

@@ -147,7 +147,7 @@ module _ (r : Stream) (t e : ℕ) where
               rw (o, le-ltb 65536 (length chunk) short, le-ltb 16777216 (r .taken + length chunk) fits, room-so t e (h, i))
 
 -- What is so where a chunk of k bytes is not refused.
-pub record Accepted (r : Stream) (k t e : ℕ) : Type 0 where
+pub record NotRefused (r : Stream) (k t e : ℕ) : Type 0 where
   pub is-open : isOpen builtin r ≡ true
   pub short : k ≤ 65536
   pub within : r .taken + k ≤ 16777216
@@ -159,9 +159,9 @@ module _ (r : Stream) (k t e : ℕ) {o : Bool} {a : ℕ} (is : o ≡ isOpen buil
   answer-is : a ≡ refusalOf (isOpen builtin r) (r .taken) k t e
   answer-is = answers ∙ ap (λ (x : Bool). refusalOf x (r .taken) k t e) is
 
-  pub accepted : a ≡ done → Accepted r k t e
+  pub not-refused : a ≡ done → NotRefused r k t e
   unfolding refusalOf
-  accepted none =
+  not-refused none =
       let f = by (isOpen builtin r) (ltb 65536 k) (ltb 16777216 (r .taken + k)) (lacksRoom t e) (sym answer-is ∙ none) in
       let room = room-only t e (f .3) in
       record {

@@ -31,9 +31,9 @@ use Rattle.decoder.specs.Machine.{
   BogusName,
   Step,
   to,
-  after,
+  stepAfter,
   nothing,
-  plain,
+  textOnly,
   noDigits,
   addDigit,
   finishNumeric,
@@ -105,7 +105,7 @@ module _ (names : List Name) (context : Context) where
 
   -- What is released first.
   before : {p : ℕ} {s : List ℕ} {n : ℕ} {x y : Reading} {r : Step} (o : Reading) → y ≡ o ⊕ x → Ok names context p s n x r
-      → Ok names context p s n y (after o r)
+      → Ok names context p s n y (stepAfter o r)
   before {p} {s} {n} {x} {y} {r} o e k = record {
     same = e ∙ ap (λ (z : Reading). o ⊕ z) (k .same) ∙ sym (⊕-assoc o (r .gives) (Mean names context (r .next) (p + n) (drop n s)));
     valid = k .valid;
@@ -118,12 +118,12 @@ module _ (names : List Name) (context : Context) where
     where
       go : (t u : Bool) → eqb c (code "\r") ≡ t → eqb c (code "&") ≡ u
           → Ok names context p s n (whole p s)
-          (if t then to (plain (code "\n" ∷ [])) AfterCr
+          (if t then to (textOnly (code "\n" ∷ [])) AfterCr
           else if u then to nothing (Begin p)
           else to (reading (take n s) (placed p (listed (characterCode c)))) Data)
       go true u e f =
           looks-own (is (code "\r")) (equal-ascii (code "\r") (omega arith))
-          (λ s n. Ok names context p s n (whole p s) (to (plain (code "\n" ∷ [])) AfterCr)) look e
+          (λ s n. Ok names context p s n (whole p s) (to (textOnly (code "\n" ∷ [])) AfterCr)) look e
           (λ t. record { same = ap (λ (x : ℕ). whole p (x ∷ t)) (eqb-true c (code "\r") e) ∙ cr-read names context p t; valid = tt })
       go false true e f =
           looks-own (is (code "&")) (equal-ascii (code "&") (omega arith)) (λ s n. Ok names context p s n (whole p s) (to nothing (Begin p))) look f
@@ -138,12 +138,12 @@ module _ (names : List Name) (context : Context) where
     where
       go : (t u : Bool) → alphanumeric c ≡ t → eqb c (code ";") ≡ u
           → Ok names context p s n (bogusMean names context q p s)
-          (if t then to (plain (take n s)) (BogusName q)
+          (if t then to (textOnly (take n s)) (BogusName q)
           else if u then to (reading (take n s) (error unknown-named-character-reference q ∷ [])) Data
           else stepData p c (take n s))
       go true u e f =
           looks-own alphanumeric alphanumeric-ascii
-          (λ s n. Ok names context p s n (bogusMean names context q p s) (to (plain (take n s)) (BogusName q))) look e
+          (λ s n. Ok names context p s n (bogusMean names context q p s) (to (textOnly (take n s)) (BogusName q))) look e
           (λ t. record { same = bogus-more names context q p c t e; valid = tt })
       go false true e f =
           looks-own (is (code ";")) (equal-ascii (code ";") (omega arith))
@@ -191,7 +191,7 @@ module _ (names : List Name) (context : Context) where
           → Ok names context p s n (numMean names context q base value p s)
           (if t then to nothing (Numeric q intro base (addDigit base value c))
           else if u then to (finishNumeric q value true) Data
-          else after (finishNumeric q value false) (stepData p c (take n s)))
+          else stepAfter (finishNumeric q value false) (stepData p c (take n s)))
       go true u e f =
           looks-own (isDigit base) (digit-ascii base few)
           (λ s n. Ok names context p s n (numMean names context q base value p s) (to nothing (Numeric q intro base (addDigit base value c)))) look e
@@ -217,7 +217,7 @@ module _ (names : List Name) (context : Context) where
           → Ok names context p s n (whole q (code "&" ∷ code "#" ∷ s))
           (if t then to nothing (HexBegin q c)
           else if u then to nothing (Numeric q (code "&" ∷ code "#" ∷ []) 10 (digitOf c))
-          else after (noDigits q (code "&" ∷ code "#" ∷ [])) (stepData p c (take n s)))
+          else stepAfter (noDigits q (code "&" ∷ code "#" ∷ [])) (stepData p c (take n s)))
       go true u e f =
           looks-own is-x is-x-ascii (λ s n. Ok names context p s n (whole q (code "&" ∷ code "#" ∷ s)) (to nothing (HexBegin q c))) look e
           (λ t. record { same = refl; valid = (omega arith, e) })
@@ -247,7 +247,7 @@ module _ (names : List Name) (context : Context) where
     where
       go : (t : Bool) → isDigit 16 c ≡ t → Ok names context p s n (whole q (code "&" ∷ code "#" ∷ letter ∷ s))
           (if t then to nothing (Numeric q (code "&" ∷ code "#" ∷ letter ∷ []) 16 (digitOf c))
-          else after (noDigits q (code "&" ∷ code "#" ∷ letter ∷ [])) (stepData p c (take n s)))
+          else stepAfter (noDigits q (code "&" ∷ code "#" ∷ letter ∷ [])) (stepData p c (take n s)))
       go true e =
           looks-own (isDigit 16) (digit-ascii 16 (omega arith))
           (λ s n. Ok names context p s n (whole q (code "&" ∷ code "#" ∷ letter ∷ s)) (to nothing (Numeric q (code "&" ∷ code "#" ∷ letter ∷ []) 16
@@ -322,12 +322,12 @@ module _ (names : List Name) (context : Context) where
   settle-ok q p h {s} {c} {n} v al first found look = go (eqb (longest names h .len) 0) refl
     where
       go : (t : Bool) → eqb (longest names h .len) 0 ≡ t → Ok names context p s n (whole q (code "&" ∷ h ++ s))
-          (if t then after (plain (code "&" ∷ h)) (stepBogus q p c (take n s))
-          else after (finishNamed context q (longest names h) h (take n s)) (stepData p c (take n s)))
+          (if t then stepAfter (textOnly (code "&" ∷ h)) (stepBogus q p c (take n s))
+          else stepAfter (finishNamed context q (longest names h) h (take n s)) (stepData p c (take n s)))
       go true e =
-          before (plain (code "&" ∷ h))
+          before (textOnly (code "&" ∷ h))
           (none-read names context q h s al first (ap (λ (f : Found). f .len) found ∙ eqb-true (longest names h .len) 0 e)
-          ∙ ap (λ (n : ℕ). plain (code "&" ∷ h) ⊕ bogusMean names context q n s) (sym v))
+          ∙ ap (λ (n : ℕ). textOnly (code "&" ∷ h) ⊕ bogusMean names context q n s) (sym v))
           (bogus-ok q p look)
       go false e =
           before (finishNamed context q (longest names h) h (take n s))
@@ -361,17 +361,17 @@ module _ (names : List Name) (context : Context) where
       go : (t u : Bool) → eqb c (code "#") ≡ t → alphanumeric c ≡ u → Ok names context p s n (whole q (code "&" ∷ s))
           (if t then to nothing (Octothorpe q)
           else if u then stepNamed names context q [] p c (take n s)
-          else after (plain (code "&" ∷ [])) (stepData p c (take n s)))
+          else stepAfter (textOnly (code "&" ∷ [])) (stepData p c (take n s)))
       go true u e f =
           looks-own (is (code "#")) (equal-ascii (code "#") (omega arith))
           (λ s n. Ok names context p s n (whole q (code "&" ∷ s)) (to nothing (Octothorpe q))) look e
           (λ t. record { same = ap (λ (x : ℕ). whole q (code "&" ∷ x ∷ t)) (eqb-true c (code "#") e); valid = omega arith })
       go false true e f = named-ok q p [] tidy (omega arith) tt (looks-next alphanumeric alphanumeric-ascii look ∙ f) look
       go false false e f =
-          before (plain (code "&" ∷ []))
+          before (textOnly (code "&" ∷ []))
           (ampersand-read names context q s tidy (next-same (code "#") (omega arith) look ∙ e)
           (looks-next alphanumeric alphanumeric-ascii look ∙ f)
-          ∙ at-place (plain (code "&" ∷ [])) s (sym v))
+          ∙ at-place (textOnly (code "&" ∷ [])) s (sym v))
           (data-ok p look)
 
   -- Each step gives what its state says of the character, and its next state says the rest.

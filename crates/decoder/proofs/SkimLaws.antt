@@ -44,7 +44,7 @@ use Rattle.standard.specs.Runs.{plain, endByte}
 use Rattle.decoder.specs.Stream.{At, atBy, Walked, stopsAt, onward, lacksRoom, walk, isPart, stBy, heldOf, recordOf, atOf}
 use Rattle.decoder.specs.Turns.{Fits}
 use Rattle.decoder.specs.Feeding.{OpenAt, Open, Moves}
-use Rattle.decoder.specs.Skims.{Runs, inReference, Closes, Ends, Stands, Alone, hasRoom, Skims}
+use Rattle.decoder.specs.Skims.{PlainRun, inReference, Closes, Ends, Stands, Alone, hasRoom, Skims}
 use Rattle.decoder.proofs.ClosedReferences.{Passes, walk-closed}
 use Rattle.decoder.proofs.PieceLaws.{character-read}
 use Rattle.decoder.proofs.Room.{room-only}
@@ -152,7 +152,7 @@ module _ {context : Context} {before : ℕ} {s : List ℕ} {from : ℕ} {text er
             (drop-drop (at - from) from s ∙ ap (λ (n : ℕ). drop n s) (let i : from + (at - from) ≡ at = omega (arith, on) in i))
 
     -- A run is copied.
-    pub skims-run : {text″ : List ℕ} {w″ : ℕ} (end : ℕ) → 8 ≤ length errors′ - e′ → Runs context s at (length text′ - w′) end
+    pub skims-run : {text″ : List ℕ} {w″ : ℕ} (end : ℕ) → 8 ≤ length errors′ - e′ → PlainRun context s at (length text′ - w′) end
         → Put text′ w′ (take (end - at) (drop at s)) text″ w″ → Skims context before s from end text w text″ w″ errors e errors′ e′
     skims-run {text″} {w″} end room run put =
         let k : ℕ = end - at in
@@ -265,7 +265,7 @@ front-every p (c ∷ s) = go (p c) refl (front-every p s)
 
 -- Plain bytes from at on, of as many as have their room.
 pub run-runs : (context : Context) (s : List ℕ) (at free : ℕ) → at ≤ length s → 64 ≤ free → {limit end : ℕ} → limit ≡ min (length s - at) (free - 63)
-    → end ≡ at + length (front (plain (endByte context)) (drop at (take (at + limit) s))) → Runs context s at free end
+    → end ≡ at + length (front (plain (endByte context)) (drop at (take (at + limit) s))) → PlainRun context s at free end
 run-runs context s at free there room {limit} {end} limit-is end-is =
     let few = front-length p l in
     let short = length-drop at (take (at + limit) s) in
@@ -294,7 +294,8 @@ run-runs context s at free there room {limit} {end} limit-is end-is =
         ∙ sym (take-take n limit (drop at s) small) ∙ ap (take n) (sym cut) ∙ sym (front-is-take p l)
 
 -- A run is as long as it says.
-pub run-length : {context : Context} {s : List ℕ} {at free end : ℕ} → Runs context s at free end → length (take (end - at) (drop at s)) + 63 ≤ free
+pub run-length : {context : Context} {s : List ℕ} {at free end : ℕ} → PlainRun context s at free end
+    → length (take (end - at) (drop at s)) + 63 ≤ free
 run-length {s = s} {at} {free} {end} r =
     let there = r .there in
     let from = r .from in

@@ -68,7 +68,7 @@ module _ (names : List Name) (context : Context) where
 
 -- After the whole characters w, of which g was released, the machine is in the state st: a source that begins with them stops, is well-formed
 -- and runs as what comes after them does.
-pub record After (names : List Name) (context : Context) (w : List ℕ) (g : Reading) (st : St) : Type 0 where
+pub record AfterCharacters (names : List Name) (context : Context) (w : List ℕ) (g : Reading) (st : St) : Type 0 where
   pub covers : (t : List ℕ) → stopFrom (callsFor context) 0 0 (w ++ t) ≡ stopFrom (callsFor context) 0 (length w) t
   pub forms : (t : List ℕ) → stopFrom (λ c. done) 0 0 (w ++ t) ≡ stopFrom (λ c. done) 0 (length w) t
   pub runs : (t : List ℕ) → runFrom names context Data 0 0 (w ++ t) ≡ g ⊕ runFrom names context st 0 (length w) t
@@ -80,7 +80,7 @@ pub record Reached (names : List Name) (context : Context) (t : List ℕ) (g : R
   pub bytes : t ≡ characters ++ at .part
   pub taken : at .taken ≡ length t
   pub begun : isPart (readChar (at .part)) ≡ true
-  pub after : After names context characters g (at .st)
+  pub after : AfterCharacters names context characters g (at .st)
 
 -- What an answer of the bytes t says of their reading.
 pub record Stopped (names : List Name) (context : Context) (t : List ℕ) (answer : ℕ) (g : Reading) (at : At) : Type 0 where
@@ -89,13 +89,13 @@ pub record Stopped (names : List Name) (context : Context) (t : List ℕ) (answe
   pub faulty : (answer ≡ context-end → ⊥) → g ≡ released names context t
 
 -- What a walk comes to after which the bytes t are read, with g released before it.
-pub record Comes (names : List Name) (context : Context) (t : List ℕ) (g : Reading) (w : Walked) : Type 0 where
+pub record WalkComes (names : List Name) (context : Context) (t : List ℕ) (g : Reading) (w : Walked) : Type 0 where
   pub reached : w .answer ≡ done → Reached names context t (g ⊕ w .gives) (w .stop)
   pub stopped : (w .answer ≡ done → ⊥) → Stopped names context t (w .answer) (g ⊕ w .gives) (w .stop)
 
 module _ (names : List Name) (context : Context) (tidy : Tidy names) where
   -- With what the end gives, all is read.
-  reads-all : {w : List ℕ} {g : Reading} {st : St} → After names context w g st → g ⊕ finish names context st ≡ decode names context w
+  reads-all : {w : List ℕ} {g : Reading} {st : St} → AfterCharacters names context w g st → g ⊕ finish names context st ≡ decode names context w
   unfolding runFrom stopFrom
   reads-all {w} {g} {st} a =
       sym (a .runs []) ∙ ap (run names context) (append-nil w)
@@ -103,13 +103,13 @@ module _ (names : List Name) (context : Context) (tidy : Tidy names) where
       (ap (λ (s : List ℕ). stopFrom (λ c. done) 0 0 s .answer) (sym (append-nil w)) ∙ ap (λ (s : Stop). s .answer) (a .forms []))
 
   -- What is released is all but the ending that is held.
-  reads-held : {w : List ℕ} {g : Reading} {st : St} → After names context w g st → g ≡ decode names context (unheld names w)
+  reads-held : {w : List ℕ} {g : Reading} {st : St} → AfterCharacters names context w g st → g ≡ decode names context (unheld names w)
   reads-held {w} {g} {st} a = held-rule names context tidy w g st (reads-all a) (a .holding)
 
   -- A character more.
   after-own : (w : List ℕ) (g : Reading) (st : St) (own : List ℕ) (c : ℕ) → readChar own ≡ Char c (length own) → callsFor context c ≡ done
-      → After names context w g st
-      → let r = step names context st (length w) c own in After names context (w ++ own) (g ⊕ r .gives) (r .next)
+      → AfterCharacters names context w g st
+      → let r = step names context st (length w) c own in AfterCharacters names context (w ++ own) (g ⊕ r .gives) (r .next)
   after-own w g st own c e d a = record {
     covers = λ t. passes (callsFor context) d (a .covers) t;
     forms = λ t. passes (λ c. done) refl (a .forms) t;
@@ -199,7 +199,7 @@ module _ (names : List Name) (context : Context) (tidy : Tidy names) where
       begun = refl;
       after =
           subst
-          (λ (p : ℕ). let r = step names context (at .st) p c own in After names context (h .characters ++ own) (g ⊕ r .gives) (r .next))
+          (λ (p : ℕ). let r = step names context (at .st) p c own in AfterCharacters names context (h .characters ++ own) (g ⊕ r .gives) (r .next))
           (sym place-after)
           (after-own (h .characters) g (at .st) own c (e ∙ ap (Char c) (completes-own (at .part) b c n (h .begun) e)) d (h .after));
     }
@@ -222,8 +222,8 @@ module _ (names : List Name) (context : Context) (tidy : Tidy names) where
     }
 
   -- A walk that goes on after a byte b, with what that released.
-  comes-on : (t s : List ℕ) (b : ℕ) (g o : Reading) (w : Walked) → Comes names context ((t ++ b ∷ []) ++ s) (g ⊕ o) w
-      → Comes names context (t ++ b ∷ s) g (onward o w)
+  comes-on : (t s : List ℕ) (b : ℕ) (g o : Reading) (w : Walked) → WalkComes names context ((t ++ b ∷ []) ++ s) (g ⊕ o) w
+      → WalkComes names context (t ++ b ∷ s) g (onward o w)
   comes-on t s b g o w c = record {
     reached = λ e. subst (λ (x : Reading). Reached names context (t ++ b ∷ s) x (w .stop)) same (rw (append-assoc t (b ∷ []) s) at (c .reached e));
     stopped = λ n.
@@ -234,7 +234,7 @@ module _ (names : List Name) (context : Context) (tidy : Tidy names) where
       same = ⊕-assoc g o (w .gives)
 
   -- What a walk comes to from where the stream is.
-  pub walk-comes : (s t : List ℕ) (g : Reading) (at : At) → Reached names context t g at → Comes names context (t ++ s) g (go names context at s)
+  pub walk-comes : (s t : List ℕ) (g : Reading) (at : At) → Reached names context t g at → WalkComes names context (t ++ s) g (go names context at s)
   unfolding go
   walk-comes [] t g at h = record {
     reached = λ e. rw (append-nil t, ⊕-none g) h;
@@ -253,10 +253,10 @@ module _ (names : List Name) (context : Context) (tidy : Tidy names) where
 
       -- A whole character, by the answer that it calls for.
       called : (c n : ℕ) → readChar own ≡ Char c n
-          → ((t : List ℕ) (g : Reading) (at : At) → Reached names context t g at → Comes names context (t ++ s) g (go names context at s))
+          → ((t : List ℕ) (g : Reading) (at : At) → Reached names context t g at → WalkComes names context (t ++ s) g (go names context at s))
           → (u : Bool) → eqb (callsFor context c) done ≡ u
           → let m = moveBy names context at (Char c n) own in
-          Comes names context (t ++ b ∷ s) g
+          WalkComes names context (t ++ b ∷ s) g
           (if not u then stopsAt (callsFor context c) (lastOf names context (callsFor context c) (at .st)) at
           else onward (m .gives) (go names context (m .to) s))
       called c n e later true d =
@@ -267,8 +267,8 @@ module _ (names : List Name) (context : Context) (tidy : Tidy names) where
       }
 
       byRead : (r : CharRead) → readChar own ≡ r
-          → ((t : List ℕ) (g : Reading) (at : At) → Reached names context t g at → Comes names context (t ++ s) g (go names context at s))
-          → Comes names context (t ++ b ∷ s) g (by r)
+          → ((t : List ℕ) (g : Reading) (at : At) → Reached names context t g at → WalkComes names context (t ++ s) g (go names context at s))
+          → WalkComes names context (t ++ b ∷ s) g (by r)
       byRead (Char c n) e later = called c n e later (eqb (callsFor context c) done) refl
       byRead (Incomplete n) e later = comes-on t s b g nothing _ (rw (⊕-none g) (later (t ++ b ∷ []) g _ (reaches-part h b n e)))
       byRead (Illformed n) e later = record {
@@ -311,8 +311,8 @@ module _ (names : List Name) (context : Context) (tidy : Tidy names) where
 
   -- What a walk from the start comes to.
   from-start : (s : List ℕ) {a : ℕ} {g : Reading} {at : At} → go names context start s ≡ stopsAt a g at
-      → Comes names context s nothing (stopsAt a g at)
-  from-start s e = subst (Comes names context s nothing) e (walk-comes names context tidy s [] nothing start (at-start names context tidy))
+      → WalkComes names context s nothing (stopsAt a g at)
+  from-start s e = subst (WalkComes names context s nothing) e (walk-comes names context tidy s [] nothing start (at-start names context tidy))
 
   -- Bytes that are all taken released all but what is held, and are counted.
   pub go-held : (t : List ℕ) (g : Reading) (at : At) → go names context start t ≡ stopsAt done g at

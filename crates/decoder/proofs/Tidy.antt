@@ -168,10 +168,10 @@ closed-from (n ∷ names) found h t tidy al =
     ∙ closed-from names (longer found n (h ++ code ";" ∷ [])) h t (tidy .1) al
 
 -- The same of all names.
-pub closed : (names : List Name) (h t : List ℕ) → Tidy names → Alphanumerics h
+pub closed-longest : (names : List Name) (h t : List ℕ) → Tidy names → Alphanumerics h
     → longest names ((h ++ code ";" ∷ []) ++ t) ≡ longest names (h ++ code ";" ∷ [])
 unfolding longest
-closed names = closed-from names no-name
+closed-longest names = closed-from names no-name
 
 -- What begins some name begins a name of the list.
 pub begins-some : (names : List Name) (s : List ℕ) → begins names s ≡ true → (n : Name) × List·Memᴰ n names × (stands s (n .word) ≡ true)

@@ -25,7 +25,7 @@ use Rattle.decoder.specs.declared.stream.Held.{Held}
 use Rattle.decoder.specs.declared.stream.State.{State}
 use Rattle.decoder.specs.declared.stream.State.the-variants as kind
 use Rattle.decoder.specs.declared.turns.Turn.{Turn}
-use Rattle.decoder.specs.Machine.{St, Data, AfterCr, Begin, Step, to, after, nothing, plain, finishNumeric, stepData, step, finish}
+use Rattle.decoder.specs.Machine.{St, Data, AfterCr, Begin, Step, to, stepAfter, nothing, textOnly, finishNumeric, stepData, step, finish}
 use Rattle.decoder.specs.Pieces.{pieceOf, oneOf, noneOf}
 use Rattle.decoder.specs.Stream.{padded, storeOf, markOf, kindOf, heldOf, stBy, stOf}
 use Rattle.decoder.specs.Turns.{asciiOf, Fits, Fit, Stored, releasedOf, Releases, Turns, Follows}
@@ -96,7 +96,7 @@ held-stored st e = record { store-is = ap (λ (h : Held). h .store) e; count-is 
 
 -- A character without an error of its own, after a piece x.
 pub follows-text : {x own : Piece} {next : Held} (p c : ℕ) (st : St) → own ≡ oneOf 1 c 0 0 → next ≡ heldOf st
-    → Follows x p (record { released = x; own = own; next = next }) (to (plain (encode c)) st)
+    → Follows x p (record { released = x; own = own; next = next }) (to (textOnly (encode c)) st)
 unfolding placed
 follows-text p c st e is = record { first = refl; gives = ap (readingAt p) (ap pieceOf e ∙ one-code 1 c 0); next = is }
 
@@ -108,14 +108,14 @@ follows-none p st e is = record { first = refl; gives = ap (λ (y : Piece). read
 
 -- A piece of all the bytes s.
 pub all-read : (q : ℕ) (s : List ℕ) (x : Piece) {y : standard.Piece} → pieceOf x ≡ y → x .size ≡ length s
-    → readingAt q (pieceOf x) ⊕ plain (drop (x .size) s) ≡ readingAt q y
+    → readingAt q (pieceOf x) ⊕ textOnly (drop (x .size) s) ≡ readingAt q y
 all-read q s x {y} e n =
-    (λ i. readingAt q (e i) ⊕ plain (drop (n i) s)) ∙ (λ i. readingAt q y ⊕ plain (drop-length s i))
+    (λ i. readingAt q (e i) ⊕ textOnly (drop (n i) s)) ∙ (λ i. readingAt q y ⊕ textOnly (drop-length s i))
     ∙ (λ i. reading (append-nil (y .text) i) (append-nil (placed q (y .codes)) i))
 
 -- An `&` alone, and the bytes s after it.
-pub alone-read : (q error : ℕ) (s : List ℕ) → readingAt q (pieceOf (oneOf 1 0x26 error 0)) ⊕ plain s ≡ readingAt q (ampersand error) ⊕ plain s
-alone-read q error s = ap (λ (y : standard.Piece). readingAt q y ⊕ plain s) (alone error)
+pub alone-read : (q error : ℕ) (s : List ℕ) → readingAt q (pieceOf (oneOf 1 0x26 error 0)) ⊕ textOnly s ≡ readingAt q (ampersand error) ⊕ textOnly s
+alone-read q error s = ap (λ (y : standard.Piece). readingAt q y ⊕ textOnly s) (alone error)
 
 module _ {held : Held} {s : List ℕ} (stored : Stored held s) where
   -- The bytes that are held are the first of the store.
@@ -127,11 +127,11 @@ module _ {held : Held} {s : List ℕ} (stored : Stored held s) where
   stored-length few = ap length (stored .store-is) ∙ simp (length-append, length-replicate) (omega arith)
 
   -- What is released of them.
-  released-is : (x : Piece) → releasedOf held x ≡ readingAt (held .place) (pieceOf x) ⊕ plain (drop (x .size) s)
-  released-is x = ap (λ (l : List ℕ). readingAt (held .place) (pieceOf x) ⊕ plain (drop (x .size) l)) stored-bytes
+  released-is : (x : Piece) → releasedOf held x ≡ readingAt (held .place) (pieceOf x) ⊕ textOnly (drop (x .size) s)
+  released-is x = ap (λ (l : List ℕ). readingAt (held .place) (pieceOf x) ⊕ textOnly (drop (x .size) l)) stored-bytes
 
   -- A piece and the bytes after it are released.
-  pub releases : {x y : Piece} {r : Reading} → x ≡ y → readingAt (held .place) (pieceOf y) ⊕ plain (drop (y .size) s) ≡ r → y .size ≤ length s
+  pub releases : {x y : Piece} {r : Reading} → x ≡ y → readingAt (held .place) (pieceOf y) ⊕ textOnly (drop (y .size) s) ≡ r → y .size ≤ length s
       → Releases held x r
   releases {x} {y} same e fits = record {
     gives = ap (releasedOf held) same ∙ released-is y ∙ e;
@@ -140,14 +140,14 @@ module _ {held : Held} {s : List ℕ} (stored : Stored held s) where
 
   -- They are released, and then the step is taken.
   pub turns : {x y : Piece} {p : ℕ} {t : Turn} {step : Step} {before : Reading} → Follows x p t step → x ≡ y
-      → readingAt (held .place) (pieceOf y) ⊕ plain (drop (y .size) s) ≡ before → y .size ≤ length s → Turns held p t (after before step)
+      → readingAt (held .place) (pieceOf y) ⊕ textOnly (drop (y .size) s) ≡ before → y .size ≤ length s → Turns held p t (stepAfter before step)
   turns follows same e fits =
       let r = releases (follows .first ∙ same) e fits in
       record { gives = λ i. r .gives i ⊕ follows .gives i; next = follows .next; within = r .within }
 
   -- They are released, and the character gives nothing.
   pub turns-last : {x y : Piece} {p : ℕ} {t : Turn} {st : St} {before : Reading} → Follows x p t (to nothing st) → x ≡ y
-      → readingAt (held .place) (pieceOf y) ⊕ plain (drop (y .size) s) ≡ before → y .size ≤ length s → Turns held p t (to before st)
+      → readingAt (held .place) (pieceOf y) ⊕ textOnly (drop (y .size) s) ≡ before → y .size ≤ length s → Turns held p t (to before st)
   turns-last {before = before} follows same e fits =
       let w = turns follows same e fits in
       record {
@@ -158,13 +158,15 @@ module _ {held : Held} {s : List ℕ} (stored : Stored held s) where
 
   -- A number of all of them, with its `;`.
   pub number-closed : (value : ℕ) {char error : ℕ} → char ≡ meaningOf value .char → error ≡ meaningOf value .code
-      → readingAt (held .place) (pieceOf (oneOf (held .count) char error 0)) ⊕ plain (drop (held .count) s) ≡ finishNumeric (held .place) value true
+      → readingAt (held .place) (pieceOf (oneOf (held .count) char error 0)) ⊕ textOnly (drop (held .count) s)
+      ≡ finishNumeric (held .place) value true
   number-closed value {char} {error} c e =
       all-read (held .place) s (oneOf (held .count) char error 0) (one-code (held .count) char error) (stored .count-is) ∙ rw (c, e)
 
   -- A number without it.
   pub number-open : (value : ℕ) {char error : ℕ} → char ≡ meaningOf value .char → error ≡ meaningOf value .code
-      → readingAt (held .place) (pieceOf (oneOf (held .count) char 2 error)) ⊕ plain (drop (held .count) s) ≡ finishNumeric (held .place) value false
+      → readingAt (held .place) (pieceOf (oneOf (held .count) char 2 error)) ⊕ textOnly (drop (held .count) s)
+      ≡ finishNumeric (held .place) value false
   number-open value {char} {error} c e =
       all-read (held .place) s (oneOf (held .count) char 2 error) (one-is (held .count) char 2 error) (stored .count-is) ∙ rw (c, e)
 
@@ -179,7 +181,7 @@ module _ {held : Held} {s : List ℕ} (stored : Stored held s) where
         gives = ap (λ (u : Turn). readingAt p (pieceOf (u .own))) e;
         next = ap (λ (u : Turn). u .next) e ∙ is;
       })
-      refl (λ i. plain ((ap (λ (m : ℕ). drop m s) n ∙ drop-length s) i)) (omega arith)
+      refl (λ i. textOnly ((ap (λ (m : ℕ). drop m s) n ∙ drop-length s) i)) (omega arith)
 
   -- One byte more is held.
   pub stored-more : (b : ℕ) {more : Held} → length s < 32 → more .store ≡ set (held .store) (held .count) b → more .count ≡ held .count + 1

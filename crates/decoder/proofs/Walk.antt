@@ -28,7 +28,7 @@ use Rattle.rooms.proofs.Fits.{numbers-fit}
 use Rattle.decoder.specs.declared.pieces.Piece.{Piece}
 use Rattle.decoder.specs.Pieces.{pieceOf}
 use Rattle.standard.specs.Runs.{plain, endByte}
-use Rattle.decoder.specs.Skims.{Runs}
+use Rattle.decoder.specs.Skims.{PlainRun}
 use Rattle.decoder.specs.Writing.{WroteBy, Wrote, readFrom, Advances}
 use Rattle.standard.proofs.RunLaws.{plain-is}
 use Rattle.decoder.proofs.Writing.{by-none, by-join, wrote-text, wrote-join}
@@ -57,7 +57,7 @@ module _ (context : Context) (s : List ℕ) (at : ℕ) {table : List ℕ} (q : P
       (ap (λ (p : standard.Piece). readingAt at p ⊕ readFrom context s (at + p .size)) (sym piece-is))
 
 -- A run of plain bytes that is copied.
-module _ {context : Context} {s : List ℕ} {at free end : ℕ} (run : Runs context s at free end) {text mid : List ℕ} {w m : ℕ}
+module _ {context : Context} {s : List ℕ} {at free end : ℕ} (run : PlainRun context s at free end) {text mid : List ℕ} {w m : ℕ}
     (put : Put text w (take (end - at) (drop at s)) mid m) where
   -- What is read from at on is the run, and what is read after it.
   run-splits : readFrom context s at ≡ reading (take (end - at) (drop at s)) [] ⊕ readFrom context s end

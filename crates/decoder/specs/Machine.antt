@@ -47,28 +47,28 @@ abbrev pub to : Reading → St → Step
 to gives next = record { gives = gives; next = next }
 
 -- What is released before a step.
-abbrev pub after : Reading → Step → Step
-after before step = to (before ⊕ step .gives) (step .next)
+abbrev pub stepAfter : Reading → Step → Step
+stepAfter before step = to (before ⊕ step .gives) (step .next)
 
 -- The reading of nothing.
 abbrev pub nothing : Reading
 nothing = reading [] []
 
 -- Characters that stand for themselves without an error.
-abbrev pub plain : List ℕ → Reading
-plain text = reading text []
+abbrev pub textOnly : List ℕ → Reading
+textOnly text = reading text []
 
 -- Nothing is held: a CR, an `&`, or a character c with its own bytes at place p.
 unfoldable pub stepData : (p c : ℕ) (own : List ℕ) → Step
 stepData p c own =
-    if eqb c (code "\r") then to (plain (code "\n" ∷ [])) AfterCr
+    if eqb c (code "\r") then to (textOnly (code "\n" ∷ [])) AfterCr
     else if eqb c (code "&") then to nothing (Begin p)
     else to (reading own (placed p (listed (characterCode c)))) Data
 
 -- In a name that is no name.
 unfoldable pub stepBogus : (q p c : ℕ) (own : List ℕ) → Step
 stepBogus q p c own =
-    if alphanumeric c then to (plain own) (BogusName q)
+    if alphanumeric c then to (textOnly own) (BogusName q)
     else if eqb c (code ";") then to (reading own (error unknown-named-character-reference q ∷ [])) Data
     else stepData p c own
 
@@ -87,13 +87,13 @@ finishNumeric q value semicolon = readingAt q (numbered 0 (meaningOf value) semi
 -- A name that was found in what is held, with what is next after that; what is held past the piece stands for itself.
 unfoldable pub finishNamed : Context → ℕ → Found → (held next : List ℕ) → Reading
 finishNamed context q found held next =
-    let p : Piece = namedBy context found (held ++ next) in readingAt q p ⊕ plain (drop (p .size - 1) held)
+    let p : Piece = namedBy context found (held ++ next) in readingAt q p ⊕ textOnly (drop (p .size - 1) held)
 
 -- What is held of a name is settled by a character that no name goes on with.
 unfoldable pub settle : Context → ℕ → Found → List ℕ → (p c : ℕ) (own : List ℕ) → Step
 settle context q found held p c own =
-    if eqb (found .len) 0 then after (plain (code "&" ∷ held)) (stepBogus q p c own)
-    else after (finishNamed context q found held own) (stepData p c own)
+    if eqb (found .len) 0 then stepAfter (textOnly (code "&" ∷ held)) (stepBogus q p c own)
+    else stepAfter (finishNamed context q found held own) (stepData p c own)
 
 -- One more character of a name: it goes on, it is closed by its `;`, or it is settled.
 unfoldable pub stepNamed : List Name → Context → ℕ → List ℕ → (p c : ℕ) (own : List ℕ) → Step
@@ -112,27 +112,27 @@ abbrev pub stepBegin : List Name → Context → (q p c : ℕ) (own : List ℕ) 
 stepBegin names context q p c own =
     if eqb c (code "#") then to nothing (Octothorpe q)
     else if alphanumeric c then stepNamed names context q [] p c own
-    else after (plain (code "&" ∷ [])) (stepData p c own)
+    else stepAfter (textOnly (code "&" ∷ [])) (stepData p c own)
 
 -- After `&#`.
 abbrev pub stepOctothorpe : (q p c : ℕ) (own : List ℕ) → Step
 stepOctothorpe q p c own =
     if eqb c (code "x") || eqb c (code "X") then to nothing (HexBegin q c)
     else if isDigit 10 c then to nothing (Numeric q (code "&" ∷ code "#" ∷ []) 10 (digitOf c))
-    else after (noDigits q (code "&" ∷ code "#" ∷ [])) (stepData p c own)
+    else stepAfter (noDigits q (code "&" ∷ code "#" ∷ [])) (stepData p c own)
 
 -- After `&#x`.
 abbrev pub stepHexBegin : (q letter p c : ℕ) (own : List ℕ) → Step
 stepHexBegin q letter p c own =
     if isDigit 16 c then to nothing (Numeric q (code "&" ∷ code "#" ∷ letter ∷ []) 16 (digitOf c))
-    else after (noDigits q (code "&" ∷ code "#" ∷ letter ∷ [])) (stepData p c own)
+    else stepAfter (noDigits q (code "&" ∷ code "#" ∷ letter ∷ [])) (stepData p c own)
 
 -- In a number.
 abbrev pub stepNumeric : (q : ℕ) (intro : List ℕ) (base value p c : ℕ) (own : List ℕ) → Step
 stepNumeric q intro base value p c own =
     if isDigit base c then to nothing (Numeric q intro base (addDigit base value c))
     else if eqb c (code ";") then to (finishNumeric q value true) Data
-    else after (finishNumeric q value false) (stepData p c own)
+    else stepAfter (finishNumeric q value false) (stepData p c own)
 
 -- A character c with its own bytes at place p.
 unfoldable pub step : List Name → Context → St → (p c : ℕ) (own : List ℕ) → Step
@@ -149,10 +149,10 @@ step names context (BogusName q) p c own = stepBogus q p c own
 unfoldable pub finish : List Name → Context → St → Reading
 finish names context Data = nothing
 finish names context AfterCr = nothing
-finish names context (Begin q) = plain (code "&" ∷ [])
+finish names context (Begin q) = textOnly (code "&" ∷ [])
 finish names context (Octothorpe q) = noDigits q (code "&" ∷ code "#" ∷ [])
 finish names context (HexBegin q letter) = noDigits q (code "&" ∷ code "#" ∷ letter ∷ [])
 finish names context (Numeric q intro base value) = finishNumeric q value false
 finish names context (Named q held) =
-    if eqb (longest names held .len) 0 then plain (code "&" ∷ held) else finishNamed context q (longest names held) held []
+    if eqb (longest names held .len) 0 then textOnly (code "&" ∷ held) else finishNamed context q (longest names held) held []
 finish names context (BogusName q) = nothing

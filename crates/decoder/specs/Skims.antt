@@ -21,7 +21,7 @@ use Rattle.standard.specs.Runs.{plain, endByte}
 use Rattle.decoder.specs.Stream.{atBy, stopsAt, walk}
 
 -- The bytes of s from at to end are plain, and before each of them 64 of free bytes are free.
-pub record Runs (context : Context) (s : List ℕ) (at free end : ℕ) : Type 0 where
+pub record PlainRun (context : Context) (s : List ℕ) (at free end : ℕ) : Type 0 where
   pub from : at ≤ end
   pub there : end ≤ length s
   pub fits : end + 63 ≤ at + free

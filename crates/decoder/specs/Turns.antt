@@ -16,7 +16,7 @@ use Rattle.decoder.specs.declared.stream.Held.{Held}
 use Rattle.decoder.specs.declared.turns.Turn.{Turn}
 use Rattle.decoder.specs.Pieces.{pieceOf}
 use Rattle.decoder.specs.Held.{isX, heldName}
-use Rattle.decoder.specs.Machine.{St, Data, AfterCr, Begin, Octothorpe, HexBegin, Numeric, Named, BogusName, Step, plain}
+use Rattle.decoder.specs.Machine.{St, Data, AfterCr, Begin, Octothorpe, HexBegin, Numeric, Named, BogusName, Step, textOnly}
 use Rattle.decoder.specs.Stream.{padded, stOf, heldOf}
 
 -- A character as a byte where it is ASCII, and else as one that no ASCII test passes.
@@ -59,7 +59,7 @@ pub record NameHeld (held : Held) (h : List ℕ) (c : ℕ) : Type 0 where
 
 -- What is released of what is held: a piece, and the store's own bytes after it.
 abbrev pub releasedOf : Held → Piece → Reading
-releasedOf h released = readingAt (h .place) (pieceOf released) ⊕ plain (drop (released .size) (take (h .count) (h .store)))
+releasedOf h released = readingAt (h .place) (pieceOf released) ⊕ textOnly (drop (released .size) (take (h .count) (h .store)))
 
 -- A piece is all that a state releases.
 pub record Releases (h : Held) (released : Piece) (r : Reading) : Type 0 where

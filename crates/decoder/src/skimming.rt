@@ -6,7 +6,7 @@ ghost use lib.ListN.{length, getD, take, drop};
 ghost use Rattle.lists.specs.Rooms.{Put};
 ghost use Rattle.standard.specs.Names.{tableOf};
 ghost use Rattle.standard.specs.NameList.{builtin};
-ghost use Rattle.decoder.specs.Skims.{Runs, inReference, Ends, Alone, hasRoom, Skims};
+ghost use Rattle.decoder.specs.Skims.{PlainRun, inReference, Ends, Alone, hasRoom, Skims};
 use crate::classes::alphanumeric;
 use crate::classes::character_code;
 use crate::pieces::Piece;
@@ -44,7 +44,7 @@ pub(crate) fn copy_run(
     w: usize,
 ) -> Copied
     requires { ⌜ (at ≤ length (now chunk)) × (w + 64 ≤ length (now text)) ⌝ }
-    ensures { λ r. ⌜ Runs context (now (chunk .entry)) at (length (now (text .entry)) - w) (r .at)
+    ensures { λ r. ⌜ PlainRun context (now (chunk .entry)) at (length (now (text .entry)) - w) (r .at)
         × Put (now (text .entry)) w (take (r .at - at) (drop at (now (chunk .entry)))) (now (text .exit)) (r .text) ⌝ }
 {
     let free = text.len() - w - 63;

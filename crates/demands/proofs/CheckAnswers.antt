@@ -20,7 +20,7 @@ use Rattle.standard.proofs.Stops.{OneOf, stops-with}
 use Rattle.checker.specs.declared.checking.Checked.{Checked}
 use Rattle.checker.specs.Transcript.{right, Verdict, verdict, verdictOn, checked, checkedOf, checkedBytes}
 use Rattle.checker.proofs.CheckLaws.{check-long, bytes-long, bytes-rows, bytes-errors, bytes-checked}
-use Rattle.demands.proofs.Lines.{Line, line}
+use Rattle.demands.proofs.Lines.{Line, line-by}
 
 -- The answers of the check.
 abbrev pub Answer : ℕ → Type 0
@@ -120,7 +120,7 @@ module _ (context : Context) (source rows text errors : List ℕ) where
     -- A line, by what its answer is given for.
     by-when : (a : ℕ) (why result : Type 0) → (When a → why) → (why → When a) → (why → c ≡ all → result) → Line (c .answer) a why result
     by-when a why result only given so =
-        line (all .answer) a why result (ap (λ (x : Checked). x .answer) is) (λ w. given-for (given w)) (λ e. only (only-for a e))
+        line-by (all .answer) a why result (ap (λ (x : Checked). x .answer) is) (λ w. given-for (given w)) (λ e. only (only-for a e))
         (λ e. so (only (only-for a e)) is)
 
     -- An answer without a verdict.

@@ -22,12 +22,12 @@ pub record CheckRow : Type 0 where
   pub answer : Checked
 
 -- A transcript that is answered so, and one that is answered 0 with a verdict on a row.
-abbrev pub answers : Context → String → List ℕ → String → List ℕ → Checked → CheckRow
-answers context source rows text errors answer =
+abbrev pub checkRow : Context → String → List ℕ → String → List ℕ → Checked → CheckRow
+checkRow context source rows text errors answer =
     record { context = context; source = source; rows = rows; text = text; errors = errors; answer = answer }
 
 abbrev pub judged : Context → String → List ℕ → String → List ℕ → (reason row : ℕ) → CheckRow
-judged context source rows text errors reason row = answers context source rows text errors (checked 0 (verdict reason row) 0)
+judged context source rows text errors reason row = checkRow context source rows text errors (checked 0 (verdict reason row) 0)
 
 abbrev pub table : List CheckRow
 table =
@@ -56,9 +56,9 @@ table =
     ∷ judged Text "ab" (2 ∷ 2 ∷ 0 ∷ []) "abc" [] 5 1
     ∷ judged Text "ab" (2 ∷ 2 ∷ 0 ∷ []) "ab" (5 ∷ 0 ∷ []) 5 1
     ∷ judged Text "ab" [] "ab" [] 5 0
-    ∷ answers Text "a\0" (1 ∷ 1 ∷ []) "a" [] (checked 10 (verdict 0 0) 0)
-    ∷ answers Text "a\0" (1 ∷ 1 ∷ 0 ∷ []) "a" (5 ∷ []) (checked 10 (verdict 0 0) 0)
-    ∷ answers Text "a\0" (1 ∷ 1 ∷ 0 ∷ []) "a" [] (checked 2 (verdict 0 0) 1)
+    ∷ checkRow Text "a\0" (1 ∷ 1 ∷ []) "a" [] (checked 10 (verdict 0 0) 0)
+    ∷ checkRow Text "a\0" (1 ∷ 1 ∷ 0 ∷ []) "a" (5 ∷ []) (checked 10 (verdict 0 0) 0)
+    ∷ checkRow Text "a\0" (1 ∷ 1 ∷ 0 ∷ []) "a" [] (checked 2 (verdict 0 0) 1)
     ∷ []
 
 -- What the definitions give.

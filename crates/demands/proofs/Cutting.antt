@@ -30,19 +30,19 @@ use Rattle.decoder.proofs.Standing as standing
 use Rattle.decoder.proofs.Standing.{Standing, Closing, Comes, standing-new, standing-open, feed-is, feed-comes, end-is}
 
 -- The table gives no 3, 4 or 5.
-abbrev pub Accepted : ℕ → Type 0
-Accepted answer = (answer ≢ too-long) × (answer ≢ stream-too-long) × (answer ≢ no-room)
+abbrev pub Allowed : ℕ → Type 0
+Allowed answer = (answer ≢ too-long) × (answer ≢ stream-too-long) × (answer ≢ no-room)
 
 -- A run over a source: its chunks are handed in one after the other, up to the answer and the place that close the stream; g is what was given.
 pub data Runs : Stream → (source : List ℕ) → (g : Reading) → (answer place : ℕ) → Type 0 where
   -- Nothing is left, and the source ends.
-  ends : (r : Stream) (text errors : ℕ) (o : Outcome) → o ≡ endOf builtin r text errors → Accepted (o .answer)
+  ends : (r : Stream) (text errors : ℕ) (o : Outcome) → o ≡ endOf builtin r text errors → Allowed (o .answer)
       → Runs r [] (o .gives) (o .answer) (o .place)
   -- A chunk is answered so that the stream closes.
-  leaves : (r : Stream) (chunk later : List ℕ) (text errors : ℕ) (o : Outcome) → o ≡ feedOf builtin r chunk text errors → Accepted (o .answer)
+  leaves : (r : Stream) (chunk later : List ℕ) (text errors : ℕ) (o : Outcome) → o ≡ feedOf builtin r chunk text errors → Allowed (o .answer)
       → closes (o .answer) ≡ true → Runs r (chunk ++ later) (o .gives) (o .answer) (o .place)
   -- A chunk is answered so that it goes on, and what was not taken is handed in again.
-  goes : (r : Stream) (chunk later : List ℕ) (text errors : ℕ) (o : Outcome) → o ≡ feedOf builtin r chunk text errors → Accepted (o .answer)
+  goes : (r : Stream) (chunk later : List ℕ) (text errors : ℕ) (o : Outcome) → o ≡ feedOf builtin r chunk text errors → Allowed (o .answer)
       → closes (o .answer) ≡ false → {g : Reading} {answer place : ℕ} → Runs (o .record′) (drop (o .taken) (chunk ++ later)) g answer place
       → Runs r (chunk ++ later) (o .gives ⊕ g) answer place
 
@@ -66,9 +66,9 @@ not-closing answer n e f is = no-way (sym e ∙ ap closes is ∙ f)
 module _ {context : Context} {r : Stream} {t : List ℕ} {g₀ : Reading} (s : Standing context r t g₀) where
   -- The source ends.
   whole-ends : (text errors : ℕ)
-      → let o = endOf builtin r text errors in Accepted (o .answer) → Whole context (t ++ []) (g₀ ⊕ o .gives) (o .answer) (o .place)
+      → let o = endOf builtin r text errors in Allowed (o .answer) → Whole context (t ++ []) (g₀ ⊕ o .gives) (o .answer) (o .place)
   whole-ends text errors =
-      end-is s (λ o. Accepted (o .answer) → Whole context (t ++ []) (g₀ ⊕ o .gives) (o .answer) (o .place)) text errors
+      end-is s (λ o. Allowed (o .answer) → Whole context (t ++ []) (g₀ ⊕ o .gives) (o .answer) (o .place)) text errors
       (λ a. absurd (a .2 refl)) (λ cut a. same-source (sym (append-nil t)) (inside cut)) (λ none a. same-source (sym (append-nil t)) (ended none))
     where
       so-far : (g₀ ≡ released builtin context t) × (s .here .taken ≡ length t)
@@ -94,11 +94,11 @@ module _ {context : Context} {r : Stream} {t : List ℕ} {g₀ : Reading} (s : S
 
   -- A chunk closes the stream.
   whole-leaves : (chunk later : List ℕ) (text errors : ℕ)
-      → let o = feedOf builtin r chunk text errors in Accepted (o .answer) → closes (o .answer) ≡ true
+      → let o = feedOf builtin r chunk text errors in Allowed (o .answer) → closes (o .answer) ≡ true
       → Whole context (t ++ (chunk ++ later)) (g₀ ⊕ o .gives) (o .answer) (o .place)
   whole-leaves chunk later text errors =
       feed-is s
-      (λ o. Accepted (o .answer) → closes (o .answer) ≡ true → Whole context (t ++ (chunk ++ later)) (g₀ ⊕ o .gives) (o .answer) (o .place))
+      (λ o. Allowed (o .answer) → closes (o .answer) ≡ true → Whole context (t ++ (chunk ++ later)) (g₀ ⊕ o .gives) (o .answer) (o .place))
       chunk text errors (λ a e. absurd (a .0 refl)) (λ a e. absurd (a .1 refl)) (λ a e. absurd (a .2 refl)) by
     where
       closing : (o : Outcome) → closes (o .answer) ≡ true → Closing s chunk o
@@ -116,13 +116,13 @@ module _ {context : Context} {r : Stream} {t : List ℕ} {g₀ : Reading} (s : S
             held = λ h. w .2 (⊎-elim (λ i j. omega arith) (λ i j. omega arith) h);
           }
 
-      by : (o : Outcome) → Comes s chunk o → Accepted (o .answer) → closes (o .answer) ≡ true
+      by : (o : Outcome) → Comes s chunk o → Allowed (o .answer) → closes (o .answer) ≡ true
           → Whole context (t ++ (chunk ++ later)) (g₀ ⊕ o .gives) (o .answer) (o .place)
       by o (standing.goes f says all some within on) a e = no-way (sym e ∙ f)
       by o (standing.stops f c) a e = closing o e c
 
   -- A chunk that does not close it.
-  stands-on : (chunk : List ℕ) (text errors : ℕ) (o : Outcome) → o ≡ feedOf builtin r chunk text errors → Accepted (o .answer)
+  stands-on : (chunk : List ℕ) (text errors : ℕ) (o : Outcome) → o ≡ feedOf builtin r chunk text errors → Allowed (o .answer)
       → closes (o .answer) ≡ false → Standing context (o .record′) (t ++ take (o .taken) chunk) (g₀ ⊕ o .gives) × (o .taken ≤ length chunk)
   stands-on chunk text errors o is =
       subst On (sym is)
@@ -130,7 +130,7 @@ module _ {context : Context} {r : Stream} {t : List ℕ} {g₀ : Reading} (s : S
     where
       On : Outcome → Type 0
       On o =
-          Accepted (o .answer) → closes (o .answer) ≡ false
+          Allowed (o .answer) → closes (o .answer) ≡ false
           → Standing context (o .record′) (t ++ take (o .taken) chunk) (g₀ ⊕ o .gives) × (o .taken ≤ length chunk)
 
       by : (o : Outcome) → Comes s chunk o → On o
@@ -149,11 +149,11 @@ whole-run : {context : Context} {r : Stream} {t : List ℕ} {g₀ : Reading} →
     (source : List ℕ) {g : Reading} {answer place : ℕ}
     → Runs r source g answer place → Whole context (t ++ source) (g₀ ⊕ g) answer place
 whole-run {context} {t = t} {g₀} s source (ends r text errors o is a) =
-    subst (λ (o : Outcome). Accepted (o .answer) → Whole context (t ++ []) (g₀ ⊕ o .gives) (o .answer) (o .place)) (sym is)
+    subst (λ (o : Outcome). Allowed (o .answer) → Whole context (t ++ []) (g₀ ⊕ o .gives) (o .answer) (o .place)) (sym is)
     (whole-ends s text errors) a
 whole-run {context} {t = t} {g₀} s source (leaves r chunk later text errors o is a e) =
     subst
-    (λ (o : Outcome). Accepted (o .answer) → closes (o .answer) ≡ true
+    (λ (o : Outcome). Allowed (o .answer) → closes (o .answer) ≡ true
     → Whole context (t ++ (chunk ++ later)) (g₀ ⊕ o .gives) (o .answer) (o .place))
     (sym is) (whole-leaves s chunk later text errors) a e
 whole-run {context} {t = t} {g₀} s source (goes r chunk later text errors o is a e {g} {answer} {place} run) =
@@ -206,7 +206,7 @@ never-closed context run = run-not-closed (standing-new context) run
 
 -- Whatever the record, a call with a nonempty chunk that is not refused takes a byte or closes the stream.
 pub progress : (r : Stream) (chunk : List ℕ) (text errors : ℕ) → 0 < length chunk → let o = feedOf builtin r chunk text errors in
-    o .answer ≢ closed → Accepted (o .answer) → (closes (o .answer) ≡ true) ⊎ (0 < o .taken)
+    o .answer ≢ closed → Allowed (o .answer) → (closes (o .answer) ≡ true) ⊎ (0 < o .taken)
 unfolding walkedTo
 progress r chunk text errors more =
     feed-cases P r text errors chunk (λ h n a. absurd (n refl)) (λ h n a. absurd (a .0 refl)) (λ h n a. absurd (a .1 refl))
@@ -214,7 +214,7 @@ progress r chunk text errors more =
     (λ o long room. if-both P (closes (w .answer)) _ _ (λ e n a. inl e) (λ f n a. inr (some room f (took .says))))
   where
     P : Outcome → Type 0
-    P o = o .answer ≢ closed → Accepted (o .answer) → (closes (o .answer) ≡ true) ⊎ (0 < o .taken)
+    P o = o .answer ≢ closed → Allowed (o .answer) → (closes (o .answer) ≡ true) ⊎ (0 < o .taken)
 
     w : Walked
     w = walk builtin (r .context) text errors (atOf r) chunk
@@ -232,25 +232,25 @@ progress r chunk text errors more =
 abbrev pub HasRun : Stream → List ℕ → Type 0
 HasRun r source = (g : Reading) × (answer : ℕ) × (place : ℕ) × Runs r source g answer place
 
--- What is not refused is accepted.
-comes-accepted : {context : Context} {r : Stream} {t : List ℕ} {g : Reading} (s : Standing context r t g) {chunk : List ℕ} {o : Outcome}
-    → Comes s chunk o → Accepted (o .answer)
-comes-accepted s (standing.goes f (inl d) all some within on) = (λ e. omega arith, λ e. omega arith, λ e. omega arith)
-comes-accepted s (standing.goes f (inr d) all some within on) = (λ e. omega arith, λ e. omega arith, λ e. omega arith)
-comes-accepted s (standing.stops {o = o} f c) =
+-- What is not refused is allowed.
+comes-allowed : {context : Context} {r : Stream} {t : List ℕ} {g : Reading} (s : Standing context r t g) {chunk : List ℕ} {o : Outcome}
+    → Comes s chunk o → Allowed (o .answer)
+comes-allowed s (standing.goes f (inl d) all some within on) = (λ e. omega arith, λ e. omega arith, λ e. omega arith)
+comes-allowed s (standing.goes f (inr d) all some within on) = (λ e. omega arith, λ e. omega arith, λ e. omega arith)
+comes-allowed s (standing.stops {o = o} f c) =
     (not-closing (o .answer) too-long f refl, not-closing (o .answer) stream-too-long f refl, not-closing (o .answer) no-room f refl)
 
 -- With enough room so is the end.
-end-accepted : {context : Context} {r : Stream} {t : List ℕ} {g : Reading} → Standing context r t g → Accepted (endOf builtin r 64 8 .answer)
-end-accepted {r = r} s =
-    end-cases (λ o. Accepted (o .answer)) r 64 8 (λ shut. no-way (sym (standing-open s) ∙ shut)) (λ lacks. no-way (sym lacks))
+end-allowed : {context : Context} {r : Stream} {t : List ℕ} {g : Reading} → Standing context r t g → Allowed (endOf builtin r 64 8 .answer)
+end-allowed {r = r} s =
+    end-cases (λ o. Allowed (o .answer)) r 64 8 (λ shut. no-way (sym (standing-open s) ∙ shut)) (λ lacks. no-way (sym lacks))
     (λ h. (λ e. omega arith, λ e. omega arith, λ e. omega arith)) (λ o room h. (λ e. omega arith, λ e. omega arith, λ e. omega arith))
 
 -- Where a stream stands there is a run over each source that is not too long: byte by byte, with the least rooms.
 run-from : {context : Context} {r : Stream} {t : List ℕ} {g : Reading} → Standing context r t g → (source : List ℕ)
     → length t + length source ≤ longest-stream → HasRun r source
 run-from {r = r} s [] long =
-    let o = endOf builtin r 64 8 in (o .gives, o .answer, o .place, ends r 64 8 o refl (end-accepted s))
+    let o = endOf builtin r 64 8 in (o .gives, o .answer, o .place, ends r 64 8 o refl (end-allowed s))
 run-from {context} {r} {t} {g} s (b ∷ source) long = by (closes (o .answer)) refl (λ on short. run-from on source short)
   where
     o : Outcome
@@ -259,22 +259,22 @@ run-from {context} {r} {t} {g} s (b ∷ source) long = by (closes (o .answer)) r
     comes : Comes s (b ∷ []) (feedOf builtin r (b ∷ []) 64 8)
     comes = feed-comes s (b ∷ []) 64 8 (omega arith) (omega arith) (omega arith, omega arith)
 
-    accepted : Accepted (o .answer)
-    accepted = comes-accepted s comes
+    allowed : Allowed (o .answer)
+    allowed = comes-allowed s comes
 
     by : (u : Bool) → closes (o .answer) ≡ u
         → (Standing context (o .record′) (t ++ take (o .taken) (b ∷ [])) (g ⊕ o .gives)
         → length (t ++ take (o .taken) (b ∷ [])) + length source ≤ longest-stream → HasRun (o .record′) source)
         → HasRun r (b ∷ source)
-    by true e later = (o .gives, o .answer, o .place, leaves r (b ∷ []) source 64 8 o refl accepted e)
+    by true e later = (o .gives, o .answer, o .place, leaves r (b ∷ []) source 64 8 o refl allowed e)
     by false e later =
-        let on = stands-on s (b ∷ []) 64 8 o refl accepted e in
+        let on = stands-on s (b ∷ []) 64 8 o refl allowed e in
         let some : 0 < o .taken =
-        ⊎-elim (λ f. no-way (sym f ∙ e)) (λ h. h) (progress r (b ∷ []) 64 8 (omega arith) (feed-not-closed s (b ∷ []) 64 8 o refl) accepted) in
+        ⊎-elim (λ f. no-way (sym f ∙ e)) (λ h. h) (progress r (b ∷ []) 64 8 (omega arith) (feed-not-closed s (b ∷ []) 64 8 o refl) allowed) in
         let one : o .taken ≡ 1 = omega (arith, on .1) in
         let rest = later (on .0) (simp (length-append, length-take) (omega (arith, one))) in
         let run = subst (λ (n : ℕ). Runs (o .record′) (drop n (b ∷ source)) (rest .0) (rest .1) (rest .2)) (sym one) (rest .3) in
-        (o .gives ⊕ rest .0, rest .1, rest .2, goes r (b ∷ []) source 64 8 o refl accepted e run)
+        (o .gives ⊕ rest .0, rest .1, rest .2, goes r (b ∷ []) source 64 8 o refl allowed e run)
 
 -- From a new stream there is one over each source that the table gives no 4 for.
 pub runs-exist : (context : Context) (source : List ℕ) → length source ≤ longest-stream → HasRun (newStream context) source

@@ -12,18 +12,18 @@ use Rattle.lists.proofs.Choice.{below?}
 use Rattle.standard.specs.Answers.{done, ill-formed, too-long, room-asked}
 use Rattle.escaper.specs.declared.Mode.{Mode}
 use Rattle.escaper.specs.declared.Escaped.{Escaped}
-use Rattle.escaper.specs.Escape.{escape, stopOf, answerOf, writtenOf, escaped, escapedOf, Escapes}
+use Rattle.escaper.specs.Escape.{escape, escapeStop, escapeAnswer, escapeWritten, escaped, escapedOf, Escapes}
 use Rattle.escaper.proofs.Answered.{stops-with}
-use Rattle.demands.proofs.Lines.{Line, line}
+use Rattle.demands.proofs.Lines.{Line, line-by}
 
 module _ (mode : Mode) (s out : List ℕ) (r : Escaped) (out′ : List ℕ) (d : Escapes mode s out r out′) where
   -- The answer by its definition.
   abbrev answer : ℕ
-  answer = answerOf mode s (length out)
+  answer = escapeAnswer mode s (length out)
 
   -- The input is not too long, and is well-formed.
-  abbrev Good : Type 0
-  Good = (length s ≤ 65536) × (stopOf s .answer ≡ done)
+  abbrev WellFormedInput : Type 0
+  WellFormedInput = (length s ≤ 65536) × (escapeStop s .answer ≡ done)
 
   answer-is : r .answer ≡ answer
   unfolding escapedOf
@@ -31,26 +31,27 @@ module _ (mode : Mode) (s out : List ℕ) (r : Escaped) (out′ : List ℕ) (d :
 
   -- Each case has its answer.
   long : 65536 < length s → answer ≡ too-long
-  unfolding answerOf
+  unfolding escapeAnswer
   long h = rw (lt-ltb 65536 (length s) h)
 
-  faulty : (length s ≤ 65536) × (stopOf s .answer ≡ ill-formed) → answer ≡ ill-formed
-  unfolding answerOf
+  faulty : (length s ≤ 65536) × (escapeStop s .answer ≡ ill-formed) → answer ≡ ill-formed
+  unfolding escapeAnswer
   faulty h = rw (le-ltb 65536 (length s) (h .0), h .1)
 
-  asked : Good × (length out < length (escape mode s)) → answer ≡ room-asked
-  unfolding answerOf
+  asked : WellFormedInput × (length out < length (escape mode s)) → answer ≡ room-asked
+  unfolding escapeAnswer
   asked h = rw (le-ltb 65536 (length s) (h .0 .0), h .0 .1, lt-ltb (length out) (length (escape mode s)) (h .1))
 
-  fits : Good × (length (escape mode s) ≤ length out) → answer ≡ done
-  unfolding answerOf
+  fits : WellFormedInput × (length (escape mode s) ≤ length out) → answer ≡ done
+  unfolding escapeAnswer
   fits h = rw (le-ltb 65536 (length s) (h .0 .0), h .0 .1, le-ltb (length out) (length (escape mode s)) (h .1))
 
   -- What an answer is given for.
   abbrev For : ℕ → Type 0
   For a =
-      (a ≡ too-long → 65536 < length s) × (a ≡ ill-formed → (length s ≤ 65536) × (stopOf s .answer ≡ ill-formed))
-      × (a ≡ room-asked → Good × (length out < length (escape mode s))) × (a ≡ done → Good × (length (escape mode s) ≤ length out))
+      (a ≡ too-long → 65536 < length s) × (a ≡ ill-formed → (length s ≤ 65536) × (escapeStop s .answer ≡ ill-formed))
+      × (a ≡ room-asked → WellFormedInput × (length out < length (escape mode s)))
+      × (a ≡ done → WellFormedInput × (length (escape mode s) ≤ length out))
 
   answered-for : For answer
   answered-for = ⊎-elim is-long (λ short. ⊎-elim (is-good short) (is-faulty short) (stops-with s)) (below? 65536 (length s))
@@ -58,10 +59,10 @@ module _ (mode : Mode) (s out : List ℕ) (r : Escaped) (out′ : List ℕ) (d :
       is-long : 65536 < length s → For answer
       is-long h = rw (long h) (λ e. h, λ e. absurd (omega arith), λ e. absurd (omega arith), λ e. absurd (omega arith))
 
-      is-faulty : length s ≤ 65536 → stopOf s .answer ≡ ill-formed → For answer
+      is-faulty : length s ≤ 65536 → escapeStop s .answer ≡ ill-formed → For answer
       is-faulty short h = rw (faulty (short, h)) (λ e. absurd (omega arith), λ e. (short, h), λ e. absurd (omega arith), λ e. absurd (omega arith))
 
-      is-good : length s ≤ 65536 → stopOf s .answer ≡ done → For answer
+      is-good : length s ≤ 65536 → escapeStop s .answer ≡ done → For answer
       is-good short h =
           ⊎-elim
           (λ (k : length out < length (escape mode s)). rw (asked ((short, h), k))
@@ -71,23 +72,23 @@ module _ (mode : Mode) (s out : List ℕ) (r : Escaped) (out′ : List ℕ) (d :
           (below? (length out) (length (escape mode s)))
 
   pub line-3 : Line (r .answer) too-long (65536 < length s) ((r ≡ escaped too-long 0 0) × (out′ ≡ out))
-  unfolding escapedOf writtenOf
-  line-3 = line answer too-long _ _ answer-is long (answered-for .0) (λ e. (d .answered ∙ rw e, d .texts ∙ rw e))
+  unfolding escapedOf escapeWritten
+  line-3 = line-by answer too-long _ _ answer-is long (answered-for .0) (λ e. (d .answered ∙ rw e, d .texts ∙ rw e))
 
-  pub line-1 : Line (r .answer) ill-formed ((length s ≤ 65536) × (stopOf s .answer ≡ ill-formed))
-      ((r ≡ escaped ill-formed 0 (stopOf s .place)) × (out′ ≡ out))
-  unfolding escapedOf writtenOf
-  line-1 = line answer ill-formed _ _ answer-is faulty (answered-for .1) (λ e. (d .answered ∙ rw e, d .texts ∙ rw e))
+  pub line-1 : Line (r .answer) ill-formed ((length s ≤ 65536) × (escapeStop s .answer ≡ ill-formed))
+      ((r ≡ escaped ill-formed 0 (escapeStop s .place)) × (out′ ≡ out))
+  unfolding escapedOf escapeWritten
+  line-1 = line-by answer ill-formed _ _ answer-is faulty (answered-for .1) (λ e. (d .answered ∙ rw e, d .texts ∙ rw e))
 
-  pub line-9 : Line (r .answer) room-asked (Good × (length out < length (escape mode s)))
+  pub line-9 : Line (r .answer) room-asked (WellFormedInput × (length out < length (escape mode s)))
       ((r ≡ escaped room-asked (length (escape mode s)) 0) × (out′ ≡ out))
-  unfolding escapedOf writtenOf
-  line-9 = line answer room-asked _ _ answer-is asked (answered-for .2) (λ e. (d .answered ∙ rw e, d .texts ∙ rw e))
+  unfolding escapedOf escapeWritten
+  line-9 = line-by answer room-asked _ _ answer-is asked (answered-for .2) (λ e. (d .answered ∙ rw e, d .texts ∙ rw e))
 
-  pub line-0 : Line (r .answer) done (Good × (length (escape mode s) ≤ length out))
+  pub line-0 : Line (r .answer) done (WellFormedInput × (length (escape mode s) ≤ length out))
       ((r ≡ escaped done (length (escape mode s)) 0) × (out′ ≡ sets out 0 (escape mode s)))
-  unfolding escapedOf writtenOf
-  line-0 = line answer done _ _ answer-is fits (answered-for .3) (λ e. (d .answered ∙ rw e, d .texts ∙ rw e))
+  unfolding escapedOf escapeWritten
+  line-0 = line-by answer done _ _ answer-is fits (answered-for .3) (λ e. (d .answered ∙ rw e, d .texts ∙ rw e))
 
   -- No other answer is given.
   pub no-other : (r .answer ≡ too-long) ⊎ ((r .answer ≡ ill-formed) ⊎ ((r .answer ≡ room-asked) ⊎ (r .answer ≡ done)))

@@ -20,7 +20,7 @@ use Rattle.decoder.specs.Whole.{decodedOf, Decodes, DecodesBytes}
 use Rattle.escaper.specs.declared.Mode.{Mode}
 use Rattle.escaper.specs.declared.Mode.the-variants as mode
 use Rattle.escaper.specs.declared.Escaped.{Escaped}
-use Rattle.escaper.specs.Escape.{writtenOf, escapedOf, Escapes}
+use Rattle.escaper.specs.Escape.{escapeWritten, escapedOf, Escapes}
 use Rattle.checker.specs.declared.checking.Checked.{Checked}
 use Rattle.checker.specs.Transcript.{verdict, checkedBytes}
 use Rattle.exports.specs.Exports.{Given, untouched, meant, contextOf, modeOf, asked, decodes, escapes, checks, Gives}
@@ -138,7 +138,7 @@ module _ (number : ℕ) (input out report : List ℕ) (r : ℕ) (out′ report�
   unfolding escapes
   escape-never mode e =
       ⊎-elim (λ k. omega (arith, k, e)) (⊎-elim (λ k. omega (arith, k, e)) (⊎-elim (λ k. omega (arith, k, e)) (λ k. omega (arith, k, e))))
-      (escape-answers.no-other mode input out (escapedOf mode input (length out)) (sets out 0 (writtenOf mode input (length out)))
+      (escape-answers.no-other mode input out (escapedOf mode input (length out)) (sets out 0 (escapeWritten mode input (length out)))
       (record { answered = refl; texts = refl }))
 
   -- 5 exactly for another report length or mode; then nothing is touched.

@@ -62,9 +62,9 @@ Gave context t g Still = g ≡ released builtin context t
 Gave context t g (By answer) = g ≡ (if eqb answer done || eqb answer context-end then decode builtin context t else released builtin context t)
 
 -- A record as the calls left it.
-abbrev pub Left : Context → Stream → List ℕ → Reading → Phase → Type 0
-Left context r t g Still = Standing context r t g
-Left context r t g (By answer) = (r ≡ closedBy context (length t)) × Gave context t g (By answer)
+abbrev pub AsLeft : Context → Stream → List ℕ → Reading → Phase → Type 0
+AsLeft context r t g Still = Standing context r t g
+AsLeft context r t g (By answer) = (r ≡ closedBy context (length t)) × Gave context t g (By answer)
 
 -- The record of a stream that closed counts as closed.
 pub closed-closed : (context : Context) (n : ℕ) → isOpen builtin (closedBy context n) ≡ false
@@ -81,7 +81,7 @@ isStill Still = true
 isStill (By answer) = false
 
 -- As long as that is so it counts as open, and then as closed.
-left-open : (context : Context) (r : Stream) (t : List ℕ) (g : Reading) (phase : Phase) → Left context r t g phase
+left-open : (context : Context) (r : Stream) (t : List ℕ) (g : Reading) (phase : Phase) → AsLeft context r t g phase
     → isOpen builtin r ≡ isStill phase
 left-open context r t g Still s = standing-open s
 left-open context r t g (By answer) w = ap (isOpen builtin) (w .0) ∙ closed-closed context (length t)
@@ -95,15 +95,15 @@ all-covered : (context : Context) (t : List ℕ) → stopOf context t ≡ Readin
 all-covered context t e = ap (λ (x : Stop). take (x .place) t) e ∙ take-length t
 
 -- Nothing was taken and nothing given.
-same : (context : Context) (r : Stream) (t : List ℕ) (g : Reading) (phase : Phase) → Left context r t g phase
-    → Left context r (t ++ []) (g ⊕ nothing) phase
-same context r t g phase left =
-    subst (λ (x : List ℕ × Reading). Left context r (x .0) (x .1) phase) (λ i. (sym (append-nil t) i, sym (⊕-none g) i)) left
+same : (context : Context) (r : Stream) (t : List ℕ) (g : Reading) (phase : Phase) → AsLeft context r t g phase
+    → AsLeft context r (t ++ []) (g ⊕ nothing) phase
+same context r t g phase as-left =
+    subst (λ (x : List ℕ × Reading). AsLeft context r (x .0) (x .1) phase) (λ i. (sym (append-nil t) i, sym (⊕-none g) i)) as-left
 
 module _ {context : Context} {r : Stream} {t : List ℕ} {g : Reading} (s : Standing context r t g) where
   -- A call that closes the stream.
   closing : (chunk : List ℕ) {o : Outcome} → closes (o .answer) ≡ true → Closing s chunk o
-      → Left context (o .record′) (t ++ take (o .taken) chunk) (g ⊕ o .gives) (By (o .answer))
+      → AsLeft context (o .record′) (t ++ take (o .taken) chunk) (g ⊕ o .gives) (By (o .answer))
   closing chunk {o} e c = (c .record-is ∙ ap (closedBy context) (sym long), gave (eqb (o .answer) context-end) refl)
     where
       took : List ℕ
@@ -131,19 +131,19 @@ module _ {context : Context} {r : Stream} {t : List ℕ} {g : Reading} (s : Stan
   -- A chunk.
   after-feed : (chunk : List ℕ) (text errors : ℕ)
       → let o = feedOf builtin r chunk text errors in
-      Left context (o .record′) (t ++ take (o .taken) chunk) (g ⊕ o .gives) (fed Still (o .answer))
+      AsLeft context (o .record′) (t ++ take (o .taken) chunk) (g ⊕ o .gives) (fed Still (o .answer))
   after-feed chunk text errors =
-      feed-is s (λ o. Left context (o .record′) (t ++ take (o .taken) chunk) (g ⊕ o .gives) (fed Still (o .answer))) chunk text errors
+      feed-is s (λ o. AsLeft context (o .record′) (t ++ take (o .taken) chunk) (g ⊕ o .gives) (fed Still (o .answer))) chunk text errors
       (same context r t g Still s) (same context r t g Still s) (same context r t g Still s) by
     where
-      by : (o : Outcome) → Comes s chunk o → Left context (o .record′) (t ++ take (o .taken) chunk) (g ⊕ o .gives) (fed Still (o .answer))
+      by : (o : Outcome) → Comes s chunk o → AsLeft context (o .record′) (t ++ take (o .taken) chunk) (g ⊕ o .gives) (fed Still (o .answer))
       by o (goes e says all some within on) = rw e on
       by o (stops e c) = rw e (closing chunk e c)
 
   -- The end.
-  after-end : (text errors : ℕ) → let o = endOf builtin r text errors in Left context (o .record′) t (g ⊕ o .gives) (ended Still (o .answer))
+  after-end : (text errors : ℕ) → let o = endOf builtin r text errors in AsLeft context (o .record′) t (g ⊕ o .gives) (ended Still (o .answer))
   after-end text errors =
-      end-is s (λ o. Left context (o .record′) t (g ⊕ o .gives) (ended Still (o .answer))) text errors
+      end-is s (λ o. AsLeft context (o .record′) t (g ⊕ o .gives) (ended Still (o .answer))) text errors
       (subst (λ (x : Reading). Standing context r t x) (sym (⊕-none g)) s)
       (λ h. (refl, ⊕-none g ∙ go-held builtin context builtin-tidy t g (s .here) (s .went) .0))
       (λ h. let whole = go-ended builtin context builtin-tidy t g (s .here) (s .went) h in
@@ -151,30 +151,30 @@ module _ {context : Context} {r : Stream} {t : List ℕ} {g : Reading} (s : Stan
 
 module _ (context : Context) (r : Stream) (t : List ℕ) (g : Reading) where
   -- A closed stream refuses every chunk.
-  feed-left : (phase : Phase) → Left context r t g phase → (chunk : List ℕ) (text errors : ℕ)
+  feed-left : (phase : Phase) → AsLeft context r t g phase → (chunk : List ℕ) (text errors : ℕ)
       → let o = feedOf builtin r chunk text errors in
-      Left context (o .record′) (t ++ take (o .taken) chunk) (g ⊕ o .gives) (fed phase (o .answer))
+      AsLeft context (o .record′) (t ++ take (o .taken) chunk) (g ⊕ o .gives) (fed phase (o .answer))
   unfolding feedOf
   feed-left Still s chunk text errors = after-feed s chunk text errors
   feed-left (By answer) w chunk text errors = rw (left-open context r t g (By answer) w) (same context r t g (By answer) w)
 
   -- And every end.
-  end-left : (phase : Phase) → Left context r t g phase → (text errors : ℕ)
-      → let o = endOf builtin r text errors in Left context (o .record′) t (g ⊕ o .gives) (ended phase (o .answer))
+  end-left : (phase : Phase) → AsLeft context r t g phase → (text errors : ℕ)
+      → let o = endOf builtin r text errors in AsLeft context (o .record′) t (g ⊕ o .gives) (ended phase (o .answer))
   unfolding endOf
   end-left Still s text errors = after-end s text errors
   end-left (By answer) w text errors =
-      rw (left-open context r t g (By answer) w) (subst (λ (x : Reading). Left context r t x (By answer)) (sym (⊕-none g)) w)
+      rw (left-open context r t g (By answer) w) (subst (λ (x : Reading). AsLeft context r t x (By answer)) (sym (⊕-none g)) w)
 
 -- Every call leaves it so.
-pub left : {context : Context} {r : Stream} {t : List ℕ} {g : Reading} {phase : Phase} → Calls context r t g phase → Left context r t g phase
-left {context} new = standing-new context
-left {context} (feeds {r} {t} {g} {phase} c chunk text errors o is) =
-    subst (λ (o : Outcome). Left context (o .record′) (t ++ take (o .taken) chunk) (g ⊕ o .gives) (fed phase (o .answer))) (sym is)
-    (feed-left context r t g phase (left c) chunk text errors)
-left {context} (ends {r} {t} {g} {phase} c text errors o is) =
-    subst (λ (o : Outcome). Left context (o .record′) t (g ⊕ o .gives) (ended phase (o .answer))) (sym is)
-    (end-left context r t g phase (left c) text errors)
+pub as-left : {context : Context} {r : Stream} {t : List ℕ} {g : Reading} {phase : Phase} → Calls context r t g phase → AsLeft context r t g phase
+as-left {context} new = standing-new context
+as-left {context} (feeds {r} {t} {g} {phase} c chunk text errors o is) =
+    subst (λ (o : Outcome). AsLeft context (o .record′) (t ++ take (o .taken) chunk) (g ⊕ o .gives) (fed phase (o .answer))) (sym is)
+    (feed-left context r t g phase (as-left c) chunk text errors)
+as-left {context} (ends {r} {t} {g} {phase} c text errors o is) =
+    subst (λ (o : Outcome). AsLeft context (o .record′) t (g ⊕ o .gives) (ended phase (o .answer))) (sym is)
+    (end-left context r t g phase (as-left c) text errors)
 
 -- No call takes more bytes than its chunk has, whatever the record.
 pub taken-within : (r : Stream) (chunk : List ℕ) (text errors : ℕ) → feedOf builtin r chunk text errors .taken ≤ length chunk
@@ -200,9 +200,9 @@ taken-sum (ends {r} c text errors o is) =
 pub held : {context : Context} {r : Stream} {t : List ℕ} {g : Reading} {phase : Phase} (c : Calls context r t g phase)
     → (r .taken ≡ takenSum c) × (r .taken ≡ length t) × Gave context t g phase
 unfolding closedBy
-held {context} {r} {t} {g} {phase} c = let w = by phase (left c) in (taken-sum c, w .0, w .1)
+held {context} {r} {t} {g} {phase} c = let w = by phase (as-left c) in (taken-sum c, w .0, w .1)
   where
-    by : (phase : Phase) → Left context r t g phase → (r .taken ≡ length t) × Gave context t g phase
+    by : (phase : Phase) → AsLeft context r t g phase → (r .taken ≡ length t) × Gave context t g phase
     by Still s = (standing-taken s, go-held builtin context builtin-tidy t g (s .here) (s .went) .0)
     by (By answer) w = (taken (w .0), w .1)
       where
@@ -216,13 +216,13 @@ new-open context = standing-open (standing-new context)
 -- Only an answer whose line says closed closes it: until one is given the stream counts as open, and from then on as closed.
 pub open-until-closed : {context : Context} {r : Stream} {t : List ℕ} {g : Reading} {phase : Phase} → Calls context r t g phase
     → isOpen builtin r ≡ isStill phase
-open-until-closed {context} {r} {t} {g} {phase} c = left-open context r t g phase (left c)
+open-until-closed {context} {r} {t} {g} {phase} c = left-open context r t g phase (as-left c)
 
 -- Document 01: the store of held bytes has at most 32, whatever the source.
 pub store-fits : {context : Context} {r : Stream} {t : List ℕ} {g : Reading} {phase : Phase} → Calls context r t g phase → r .held .count ≤ 32
 unfolding closedBy recordOf heldOf
-store-fits {context} {r} {t} {g} {phase} c = by phase (left c)
+store-fits {context} {r} {t} {g} {phase} c = by phase (as-left c)
   where
-    by : (phase : Phase) → Left context r t g phase → r .held .count ≤ 32
+    by : (phase : Phase) → AsLeft context r t g phase → r .held .count ≤ 32
     by Still s = subst (λ (x : Stream). x .held .count ≤ 32) (sym (s .recorded)) (fits-count (s .here .st) (s .sound .opened .fits))
     by (By answer) w = subst (λ (x : Stream). x .held .count ≤ 32) (sym (w .0)) (omega arith)

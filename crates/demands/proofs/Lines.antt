@@ -9,9 +9,10 @@ pub record Line (answer n : ℕ) (when then : Type 0) : Type 0 where
   pub so : when → then
 
 -- A line by what the answer is defined as: `when` makes that n, and n is given for `when` alone.
-pub line : {answer : ℕ} (defined n : ℕ) (when then : Type 0) → answer ≡ defined → (when → defined ≡ n) → (defined ≡ n → when) → (defined ≡ n → then)
+pub line-by : {answer : ℕ} (defined n : ℕ) (when then : Type 0) → answer ≡ defined → (when → defined ≡ n) → (defined ≡ n → when)
+    → (defined ≡ n → then)
     → Line answer n when then
-line defined n when then is forth back so =
+line-by defined n when then is forth back so =
     record { only = λ e. back (sym is ∙ e); given = λ w. is ∙ forth w; so = λ w. so (forth w) }
 
 -- The answer is n exactly when `when` holds, and then `then` does of whatever shows it.

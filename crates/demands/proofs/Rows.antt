@@ -21,8 +21,8 @@ pub record SourceRow : Type 0 where
 abbrev pub sourceRow : Context → List ℕ → String → List Error → Stop → SourceRow
 sourceRow context source text errors closing = record { context = context; source = source; text = text; errors = errors; closing = closing }
 
-abbrev pub row : Context → String → String → List Error → Stop → SourceRow
-row context source text errors closing = sourceRow context (bytes source) text errors closing
+abbrev pub quotedRow : Context → String → String → List Error → Stop → SourceRow
+quotedRow context source text errors closing = sourceRow context (bytes source) text errors closing
 
 -- The source is at its end, or left at the context's.
 abbrev pub end : ℕ → Stop

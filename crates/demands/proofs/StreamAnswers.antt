@@ -38,7 +38,6 @@ use Rattle.decoder.specs.Stream.{
   placeOf,
   calledFor,
   Walked,
-  stopsAt,
   lastOf,
   closes,
   walk,
@@ -61,8 +60,9 @@ use Rattle.decoder.proofs.Calling.{called-one, ill-called, nul-called, end-call
 use Rattle.decoder.proofs.Returns.{feed-closed, feed-long, feed-stream-long, feed-room, end-closed, end-room, end-inside, end-done}
 use Rattle.decoder.proofs.Room.{lacks-so, room-so, room?, lacks-only, room-only}
 use Rattle.demands.proofs.Lines.{Line, LineOf}
-use Rattle.demands.proofs.Held.{By, Calls, left, closed-closed}
+use Rattle.demands.proofs.Held.{By, Calls, as-left, closed-closed}
 use Rattle.demands.proofs.WalkStops.{
+  Takes,
   Stays,
   walk-lacks,
   walk-meets,
@@ -93,7 +93,7 @@ pub closed-by : {context : Context} {r : Stream} {t : List ℕ} {g : Reading} {a
     (text errors : ℕ) → (feedOf builtin r chunk text errors ≡ refuses closed r) × (endOf builtin r text errors ≡ refuses closed r)
 closed-by {context} {t = t} c chunk text errors =
     subst (λ (r : Stream). (feedOf builtin r chunk text errors ≡ refuses closed r) × (endOf builtin r text errors ≡ refuses closed r))
-    (sym (left c .0)) (closed-forever context (length t) chunk text errors)
+    (sym (as-left c .0)) (closed-forever context (length t) chunk text errors)
 
 module _ (r : Stream) (text errors : List ℕ) (fed : Fed) (text′ errors′ : List ℕ) where
   -- The record counts as open, or as closed.
@@ -141,16 +141,12 @@ module _ (r : Stream) (text errors : List ℕ) (fed : Fed) (text′ errors′ : 
     abbrev pub Fine : Type 0
     Fine = Open × (length chunk ≤ 65536) × (r .taken + length chunk ≤ 16777216) × Room (length text) (length errors)
 
-    -- From the record on these bytes are all taken: g is released, and the stream is then here.
-    abbrev pub Takes : List ℕ → Reading → At → Type 0
-    Takes s g here = walk builtin (r .context) (length text) (length errors) (atOf r) s ≡ stopsAt done g here
-
-    -- All of the chunk is taken.
+    -- From the record on all of the chunk is taken: g is released, and the stream is then here.
     pub record TakesAll : Type 0 where
       pub fine : Fine
       pub g : Reading
       pub here : At
-      pub took : Takes chunk g here
+      pub took : Takes (r .context) (length text) (length errors) (atOf r) chunk g here
 
     -- A byte of the chunk, where those before it are taken.
     pub record Reaches : Type 0 where
@@ -161,7 +157,7 @@ module _ (r : Stream) (text errors : List ℕ) (fed : Fed) (text′ errors′ : 
       pub split : chunk ≡ before ++ byte ∷ after
       pub g : Reading
       pub here : At
-      pub took : Takes before g here
+      pub took : Takes (r .context) (length text) (length errors) (atOf r) before g here
 
     -- The text bytes and error numbers that are free there.
     abbrev pub text-free : Reaches → ℕ

@@ -54,13 +54,13 @@ abbrev pub Accepted : Checked → Type 0
 Accepted c = (c .answer ≡ done) × (c .verdict ≡ right) × (c .row ≡ 0)
 
 -- What is there before the first row: all pieces of the covered source, all text and all errors.
-abbrev pub start : Context → (source text errors : List ℕ) → Left
-start context source text errors = left 0 (pieces builtin context (covered context source)) text errors
+abbrev pub beforeRows : Context → (source text errors : List ℕ) → Left
+beforeRows context source text errors = left 0 (pieces builtin context (covered context source)) text errors
 
 module _ (context : Context) (source rows text errors : List ℕ) (c : Checked) (is : c ≡ checkedOf builtin context source rows text errors)
     (short : length source ≤ 65536) (reads : readable context source ≡ true) where
   abbrev all : Left
-  all = start context source text errors
+  all = beforeRows context source text errors
 
   -- Every piece has a byte.
   sized : Sized (all .pieces)
@@ -168,7 +168,7 @@ pub empty-passes : (context : Context) (source : List ℕ) → length source ≤
 unfolding rowsOf piecesFrom
 empty-passes context source short reads empty c is = accepts-exactly context source [] [] [] c is short reads .1 (
   refl,
-  record { end = start context source [] []; cuts = none; spent = (rw empty, refl, refl) },
+  record { end = beforeRows context source [] []; cuts = none; spent = (rw empty, refl, refl) },
 )
 
 -- An answer 0 or 7 of `decode_whole` as a row: its place, if it names one, and else the source's length; its text bytes; its errors.
@@ -184,9 +184,9 @@ module _ (context : Context) (source : List ℕ) (short : length source ≤ 6553
   no-rows-refused text errors pairs c is =
       let line = names-rest context source [] text errors c is short reads refl pairs in (line .given rest, line .so rest)
     where
-      rest : Remains (start context source text errors) []
+      rest : Remains (beforeRows context source text errors) []
       rest = record {
-        end = start context source text errors;
+        end = beforeRows context source text errors;
         cuts = none;
         unspent = λ s. omega (arith, ap length (s .0), pieces-some builtin context (covered context source) some);
       }

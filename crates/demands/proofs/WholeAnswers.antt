@@ -19,7 +19,7 @@ use Rattle.decoder.specs.declared.whole.Decoded.{Decoded}
 use Rattle.decoder.specs.Whole.{RoomFor, NoRoomFor, decoded, answerOf, textNamed, placeNamed, DecodesBy}
 use Rattle.decoder.proofs.Answering.{writtenWith, answer-says, answer-is, answers-too-long, answers-asked, stops-so, answered-for, stopped-for}
 use Rattle.standard.proofs.Stops.{OneOf, stops-with}
-use Rattle.demands.proofs.Lines.{Line, line}
+use Rattle.demands.proofs.Lines.{Line, line-by}
 
 module _ {width : ℕ} {lay : List ℕ → List ℕ} (laid : Laying width lay) (room : ℕ) (context : Context) (s text errors : List ℕ) (r : Decoded)
     (text′ errors′ : List ℕ) (d : DecodesBy lay room context s text errors r text′ errors′) where
@@ -57,16 +57,16 @@ module _ {width : ℕ} {lay : List ℕ → List ℕ} (laid : Laying width lay) (
   -- A line of a source that stops.
   stop-line : (n : ℕ) (then : Type 0) → (n ≡ too-long → ⊥) → (n ≡ room-asked → ⊥) → (answer ≡ n → then) → Line (r .answer) n (Stops n) then
   stop-line n then x y so =
-      line answer n (Stops n) then is (λ w. stops-so context s (length text) room (w .0) (w .1) ∙ w .2)
+      line-by answer n (Stops n) then is (λ w. stops-so context s (length text) room (w .0) (w .1) ∙ w .2)
       (λ e. stopped-for context s (length text) room n e x y) so
 
   pub line-3 : Line (r .answer) too-long (65536 < length s) (Refused too-long 0 0)
-  line-3 = line answer too-long _ _ is (answers-too-long context s (length text) room) (answered-for context s (length text) room .0)
+  line-3 = line-by answer too-long _ _ is (answers-too-long context s (length text) room) (answered-for context s (length text) room .0)
       (λ e. unwritten 3 e refl)
 
   pub line-9 : Line (r .answer) room-asked ((length s ≤ 65536) × NoRoomFor s (length text) room) (Refused room-asked (length s + 64) 0)
   line-9 =
-      line answer room-asked _ _ is (λ w. answers-asked context s (length text) room (w .0) (w .1))
+      line-by answer room-asked _ _ is (λ w. answers-asked context s (length text) room (w .0) (w .1))
       (answered-for context s (length text) room .1) (λ e. unwritten 9 e refl)
 
   pub line-1 : Line (r .answer) ill-formed (Stops ill-formed) (Refused ill-formed 0 (stopOf context s .place))

@@ -91,8 +91,8 @@ first-begins mode b s c n e q =
     (λ f. let a = eqb-false (getD s 0 0) 0xA0 f in (w .0, λ own. other-written mode c own (omega arith) (omega arith)))))))
 
 -- The same of the first byte of some bytes.
-pub begins : (mode : Mode) (s : List ℕ) (c n : ℕ) → readChar s ≡ Char c n → quiet (quoteOf mode) (getD s 0 0) ≡ false
+pub special-begins : (mode : Mode) (s : List ℕ) (c n : ℕ) → readChar s ≡ Char c n → quiet (quoteOf mode) (getD s 0 0) ≡ false
     → Begun mode c n (specialOf (getD s 0 0) (getD s 1 0))
 unfolding readChar
-begins mode [] c n e q = absurd (is-char e)
-begins mode (b ∷ s) c n e q = first-begins mode b s c n e q
+special-begins mode [] c n e q = absurd (is-char e)
+special-begins mode (b ∷ s) c n e q = first-begins mode b s c n e q

@@ -22,7 +22,7 @@ use Rattle.escaper.specs.Escape.{writtenFor, escapeFrom, escape}
 use Rattle.escaper.specs.declared.specials.Special.{Special}
 use Rattle.standard.specs.Runs.{quiet}
 use Rattle.escaper.specs.Walk.{quoteOf, specialOf, sourceLength, textOf}
-use Rattle.escaper.proofs.Begins.{begins}
+use Rattle.escaper.proofs.Begins.{special-begins}
 use Rattle.escaper.proofs.Stopping.{stopAt, stop-character}
 use Rattle.escaper.proofs.Quiet.{quiet-character}
 
@@ -136,7 +136,7 @@ special-moves mode s at next x h there loud e n =
     let k = sound-character at (drop at s) (simp length-drop (omega arith)) (h .well-formed) in
     let m = stop-character s at (k .0) (k .1) there (k .2) in
     let first : getD (drop at s) 0 0 ≡ getD s at 0 = getD-drop at s 0 0 ∙ ap (λ (i : ℕ). getD s i 0) (let z : at + 0 ≡ at = omega arith in z) in
-    let g = rw (first, getD-drop at s 1 0, sym e) at (begins mode (drop at s) (k .0) (k .1) (k .2) (rw first (loud there))) in
+    let g = rw (first, getD-drop at s 1 0, sym e) at (special-begins mode (drop at s) (k .0) (k .1) (k .2) (rw first (loud there))) in
     let size : k .1 ≡ next - at = omega arith in
     let i : at + k .1 ≡ next = omega arith in (
       record {

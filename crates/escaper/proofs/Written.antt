@@ -10,7 +10,7 @@ use Rattle.lists.proofs.Puts.{sets-append, put-length}
 use Rattle.standard.specs.Answers.{done}
 use Rattle.rooms.proofs.Fits.{copy-fits}
 use Rattle.escaper.specs.declared.Mode.{Mode}
-use Rattle.escaper.specs.Escape.{escapeFrom, escape, stopOf}
+use Rattle.escaper.specs.Escape.{escapeFrom, escape, escapeStop}
 use Rattle.escaper.proofs.Walking.{Sound, Moves}
 
 -- The result of the whole input is count bytes longer than that of the rest.
@@ -19,7 +19,7 @@ pub record Counted (mode : Mode) (s : List ℕ) (at count : ℕ) : Type 0 where
   pub all : length (escape mode s) ≡ count + length (escape mode (drop at s))
 
 -- At the front nothing is counted.
-pub counted-none : (mode : Mode) (s : List ℕ) → stopOf s .answer ≡ done → Counted mode s 0 0
+pub counted-none : (mode : Mode) (s : List ℕ) → escapeStop s .answer ≡ done → Counted mode s 0 0
 counted-none mode s h = record { sound = record { there = omega arith; well-formed = h }; all = omega arith }
 
 -- The text of a move is counted.
@@ -39,7 +39,7 @@ pub record Written (mode : Mode) (s old : List ℕ) (at : ℕ) (new : List ℕ) 
   pub kept : length new ≡ length old
 
 -- At the front nothing is written.
-pub written-none : (mode : Mode) (s old : List ℕ) → stopOf s .answer ≡ done → Written mode s old 0 old 0
+pub written-none : (mode : Mode) (s old : List ℕ) → escapeStop s .answer ≡ done → Written mode s old 0 old 0
 written-none mode s old h = record { counted = counted-none mode s h; same = refl; kept = refl }
 
 -- The text of a move is written where the whole result fits.

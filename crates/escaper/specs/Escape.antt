@@ -51,20 +51,20 @@ abbrev pub escape : Mode → List ℕ → List ℕ
 escape mode s = escapeFrom mode 0 s
 
 -- Where an input stops: at the first bytes that are no character. Every character is taken.
-abbrev pub stopOf : List ℕ → Stop
-stopOf s = stopFrom (λ c. done) 0 0 s
+abbrev pub escapeStop : List ℕ → Stop
+escapeStop s = stopFrom (λ c. done) 0 0 s
 
 -- The answer for an input, with room for so many bytes.
-unfoldable pub answerOf : Mode → List ℕ → (room : ℕ) → ℕ
-answerOf mode s room =
+unfoldable pub escapeAnswer : Mode → List ℕ → (room : ℕ) → ℕ
+escapeAnswer mode s room =
     if ltb longest-slice (length s) then too-long
-    else if eqb (stopOf s .answer) ill-formed then ill-formed
+    else if eqb (escapeStop s .answer) ill-formed then ill-formed
     else if ltb room (length (escape mode s)) then room-asked
     else done
 
 -- What is written: the result, with answer 0, and else nothing.
-unfoldable pub writtenOf : Mode → List ℕ → (room : ℕ) → List ℕ
-writtenOf mode s room = if eqb (answerOf mode s room) done then escape mode s else []
+unfoldable pub escapeWritten : Mode → List ℕ → (room : ℕ) → List ℕ
+escapeWritten mode s room = if eqb (escapeAnswer mode s room) done then escape mode s else []
 
 -- An answer, given its number, text bytes and place.
 abbrev pub escaped : (answer text place : ℕ) → Escaped
@@ -73,11 +73,11 @@ escaped answer text place = record { answer = answer; text = text; place = place
 -- The whole answer: its number, the length of the result with 0 and 9, and the place of the fault with 1.
 unfoldable pub escapedOf : Mode → List ℕ → (room : ℕ) → Escaped
 escapedOf mode s room =
-    let answer : ℕ = answerOf mode s room in
+    let answer : ℕ = escapeAnswer mode s room in
     escaped answer (if eqb answer done || eqb answer room-asked then length (escape mode s) else 0)
-    (if eqb answer ill-formed then stopOf s .place else 0)
+    (if eqb answer ill-formed then escapeStop s .place else 0)
 
 -- What a call gives for an input and a room: its result, and what the room then holds.
 pub record Escapes (mode : Mode) (input out : List ℕ) (r : Escaped) (out′ : List ℕ) : Type 0 where
   pub answered : r ≡ escapedOf mode input (length out)
-  pub texts : out′ ≡ sets out 0 (writtenOf mode input (length out))
+  pub texts : out′ ≡ sets out 0 (escapeWritten mode input (length out))

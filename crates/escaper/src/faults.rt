@@ -2,7 +2,7 @@
 ghost use mathlib.Core.Path.{_≡_};
 ghost use Prim.Native.Nat.{_≤_};
 ghost use lib.ListN.{length};
-ghost use Rattle.escaper.specs.Escape.{stopOf};
+ghost use Rattle.escaper.specs.Escape.{escapeStop};
 use standard::characters::CharRead;
 use standard::runs::ascii_end;
 
@@ -14,7 +14,7 @@ pub(crate) struct Stopped {
 
 // Where s stops.
 pub(crate) fn find_fault(s: &[u8]) -> Stopped
-    ensures { λ r. ⌜ (r .answer ≡ stopOf (now (s .entry)) .answer) × (r .place ≡ stopOf (now (s .entry)) .place)
+    ensures { λ r. ⌜ (r .answer ≡ escapeStop (now (s .entry)) .answer) × (r .place ≡ escapeStop (now (s .entry)) .place)
         × (r .place ≤ length (now (s .entry))) ⌝ }
 {
     let mut at: usize = 0;

@@ -4,14 +4,14 @@ ghost use Prim.Native.Nat.{_≤_};
 ghost use lib.ListN.{length};
 ghost use Rattle.lists.specs.Rooms.{Put};
 ghost use Rattle.standard.specs.Answers.{done};
-ghost use Rattle.escaper.specs.Escape.{escape, stopOf};
+ghost use Rattle.escaper.specs.Escape.{escape, escapeStop};
 use crate::Mode;
 use crate::runs;
 use crate::specials;
 
 // The length of the result.
 pub(crate) fn escaped_length(mode: Mode, s: &[u8]) -> usize
-    requires { ⌜ (length (now s) ≤ 65536) × (stopOf (now s) .answer ≡ done) ⌝ }
+    requires { ⌜ (length (now s) ≤ 65536) × (escapeStop (now s) .answer ≡ done) ⌝ }
     ensures { λ r. ⌜ r ≡ length (escape mode (now (s .entry))) ⌝ }
 {
     let mut at: usize = 0;
@@ -30,7 +30,7 @@ pub(crate) fn escaped_length(mode: Mode, s: &[u8]) -> usize
 
 // Writes the result.
 pub(crate) fn write_escaped(mode: Mode, s: &[u8], out: &mut [u8]) -> usize
-    requires { ⌜ (stopOf (now s) .answer ≡ done) × (length (escape mode (now s)) ≤ length (now out)) ⌝ }
+    requires { ⌜ (escapeStop (now s) .answer ≡ done) × (length (escape mode (now s)) ≤ length (now out)) ⌝ }
     ensures { λ r. ⌜ Put (now (out .entry)) 0 (escape mode (now (s .entry))) (now (out .exit)) r ⌝ }
 {
     let mut at: usize = 0;

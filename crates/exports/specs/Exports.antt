@@ -15,11 +15,11 @@ use Rattle.standard.specs.Errors.{numbers}
 use Rattle.standard.specs.NameList.{builtin}
 use Rattle.standard.specs.Reading.{Reading}
 use Rattle.decoder.specs.declared.whole.Decoded.{Decoded}
-use Rattle.decoder.specs.Whole.{decodedOf, writtenOf as readOf}
+use Rattle.decoder.specs.Whole.{decodedOf, writtenOf}
 use Rattle.escaper.specs.declared.Mode.{Mode}
 use Rattle.escaper.specs.declared.Mode.the-variants as mode
 use Rattle.escaper.specs.declared.Escaped.{Escaped}
-use Rattle.escaper.specs.Escape.{escapedOf, writtenOf}
+use Rattle.escaper.specs.Escape.{escapedOf, escapeWritten}
 use Rattle.checker.specs.declared.checking.Checked.{Checked}
 use Rattle.checker.specs.Transcript.{checkedBytes}
 
@@ -70,14 +70,14 @@ asked report meaning gives = if eqb (length report) report-length then givenFor 
 unfoldable pub decodes : (source text errors : List ℕ) → Context → Given
 decodes source text errors context =
     let d : Decoded = decodedOf context source (length text) (length errors / 4) in
-    let read : Reading = readOf context source (length text) (length errors / 4) in
+    let read : Reading = writtenOf context source (length text) (length errors / 4) in
     reported (d .answer) (d .text) (d .errors) (d .place) (read .text) (fours (numbers (read .errors)))
 
 -- Escape, in a mode.
 unfoldable pub escapes : (input out : List ℕ) → Mode → Given
 escapes input out mode =
     let e : Escaped = escapedOf mode input (length out) in
-    reported (e .answer) (e .text) 0 (e .place) (writtenOf mode input (length out)) []
+    reported (e .answer) (e .text) 0 (e .place) (escapeWritten mode input (length out)) []
 
 -- Check, in a context.
 unfoldable pub checks : (source rows text errors : List ℕ) → Context → Given

@@ -13,7 +13,7 @@ use borrow.Author.Tests.{ne-eqb, not-true, not-false}
 use Rattle.lists.specs.Notation.{every}
 
 -- Of the first i elements from `at` on, odd is 0 exactly if every one passes.
-pub record Counted (p : ℕ → Bool) (s : List ℕ) (at i odd : ℕ) : Type 0 where
+pub record OddCounted (p : ℕ → Bool) (s : List ℕ) (at i odd : ℕ) : Type 0 where
   pub few : odd ≤ i
   pub so-far : eqb odd 0 ≡ every p (take i (drop at s))
 
@@ -43,17 +43,17 @@ every-more p s at i {t} there e = rw (take-more s at i there, every-snoc p (take
 
 module _ {p : ℕ → Bool} {s : List ℕ} {at : ℕ} where
   -- Of no elements none fails.
-  pub counted-none : Counted p s at 0 0
-  counted-none = record { few = omega arith; so-far = refl }
+  pub odd-none : OddCounted p s at 0 0
+  odd-none = record { few = omega arith; so-far = refl }
 
   -- Where one more element of test t fails odd grows by one, and where it passes odd stays.
-  pub counted-more : {i odd odd′ : ℕ} {t : Bool} → at + i < length s → t ≡ p (getD s (at + i) 0) → Counted p s at i odd
-      → ((not t ≡ true) × (odd′ ≡ odd + 1)) ⊎ ((not t ≡ false) × (odd′ ≡ odd)) → Counted p s at (i + 1) odd′
-  counted-more {i} {odd} {odd′} {t} there e h (inl w) = record {
+  pub odd-more : {i odd odd′ : ℕ} {t : Bool} → at + i < length s → t ≡ p (getD s (at + i) 0) → OddCounted p s at i odd
+      → ((not t ≡ true) × (odd′ ≡ odd + 1)) ⊎ ((not t ≡ false) × (odd′ ≡ odd)) → OddCounted p s at (i + 1) odd′
+  odd-more {i} {odd} {odd′} {t} there e h (inl w) = record {
     few = omega (arith, h .few);
     so-far = ne-eqb odd′ 0 (omega arith) ∙ sym (every-more p s at i there e ∙ rw (not-true t (w .0), and-false));
   }
-  counted-more {i} {odd} {odd′} {t} there e h (inr w) = record {
+  odd-more {i} {odd} {odd′} {t} there e h (inr w) = record {
     few = omega (arith, h .few);
     so-far = rw (w .1) (h .so-far ∙ sym (every-more p s at i there e ∙ rw (not-false t (w .0), and-true)));
   }

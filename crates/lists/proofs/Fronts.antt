@@ -55,7 +55,7 @@ pub record Passed (p : ℕ → Bool) (s : List ℕ) (at : ℕ) (u : List ℕ) (n
   pub front-is : front p (drop at s) ≡ u ++ front p (drop next s)
 
 -- The front at `at` is empty.
-pub record Stopped (p : ℕ → Bool) (s : List ℕ) (at : ℕ) : Type 0 where
+pub record FrontEmpty (p : ℕ → Bool) (s : List ℕ) (at : ℕ) : Type 0 where
   pub front-is : front p (drop at s) ≡ []
 
 -- The front at `from` ends where the front at `at` does.
@@ -84,11 +84,11 @@ module _ {p : ℕ → Bool} {s : List ℕ} {at : ℕ} where
   }
 
   -- At an element that fails the front is empty.
-  pub stopped-at : at < length s → p (getD s at 0) ≡ false → Stopped p s at
+  pub stopped-at : at < length s → p (getD s at 0) ≡ false → FrontEmpty p s at
   stopped-at there e = record { front-is = front-stops p s at there e }
 
   -- At the end of the list the front is empty.
-  pub stopped-end : length s ≤ at → Stopped p s at
+  pub stopped-end : length s ≤ at → FrontEmpty p s at
   stopped-end there = record { front-is = front-none p s at there }
 
 -- Before the first element nothing is skipped yet.
@@ -104,5 +104,5 @@ skipping-on {p} {s} {u} {from} {at} {next} there h w = record {
 }
 
 -- Where the front is empty all is skipped.
-pub skipped : {p : ℕ → Bool} {s : List ℕ} {from at : ℕ} → Skipping p s from at → Stopped p s at → at ≡ from + length (front p (drop from s))
+pub skipped : {p : ℕ → Bool} {s : List ℕ} {from at : ℕ} → Skipping p s from at → FrontEmpty p s at → at ≡ from + length (front p (drop from s))
 skipped {p} {s} {from} {at} h w = sym (h .same-end ∙ rw (w .front-is) (omega arith))

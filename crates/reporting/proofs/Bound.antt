@@ -110,8 +110,8 @@ report-bound input =
     (λ f. omega arith))
 
 -- So what a call writes fits its room, before and after.
-pub report-fits : {input out errors out′ errors′ : List ℕ} {r : ℕ} → Reports input out errors r out′ errors′ → (r ≤ length out) × (r ≤ length out′)
-report-fits {input} {out} {errors} h =
+pub written-fits : {input out errors out′ errors′ : List ℕ} {r : ℕ} → Reports input out errors r out′ errors′ → (r ≤ length out) × (r ≤ length out′)
+written-fits {input} {out} {errors} h =
     let fits = if-both (λ (u : List ℕ). length u ≤ length out) (roomy (length out) (length errors)) (reportOf input) []
     (λ t. omega (arith, report-bound input, leb-true report-room (length out) (and-true (leb report-room (length out)) _ t .0)))
     (λ f. omega arith) in

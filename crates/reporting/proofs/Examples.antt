@@ -17,8 +17,8 @@ pub record InputRow : Type 0 where
 abbrev pub inputRow : List ℕ → String → InputRow
 inputRow input written = record { input = input; written = written }
 
-abbrev pub row : String → String → InputRow
-row input written = inputRow (bytes input) written
+abbrev pub quotedRow : String → String → InputRow
+quotedRow input written = inputRow (bytes input) written
 
 -- 'Input `T` LF `&notit;x` writes exactly `¬it;x`, `2 0`, `end 8`, each with LF.'
 pub bench-example : reportOf (bytes "T\n&notit;x") ≡ bytes "¬it;x\n2 0\nend 8\n"
@@ -26,41 +26,41 @@ unfolding computing decimalBy decimal errorLines closingLine sourceReport forInp
 bench-example = refl
 
 -- M1 to M14.
-abbrev pub marked : List InputRow
-marked =
-    row "T\n" "\nend 0\n"
-    ∷ row "T\n&amp;lt;" "&lt;\nend 8\n"
-    ∷ row "T\n&notit;x" "¬it;x\n2 0\nend 8\n"
-    ∷ row "T\n&notin;" "∉\nend 7\n"
-    ∷ row "A\n&not=1" "&not=1\nend 6\n"
-    ∷ row "A\n&not" "¬\n2 0\nend 4\n"
-    ∷ row "T\n&#x110000;" "�\n3 0\nend 10\n"
-    ∷ row "T\n&#128" "€\n2 0\n3 0\nend 5\n"
-    ∷ row "T\n&#x;" "&#x;\n1 0\nend 4\n"
-    ∷ row "T\n&#13;\r\n" "\r\n\n3 0\nend 7\n"
-    ∷ row "T\n&abc;" "&abc;\n4 0\nend 5\n"
-    ∷ row "T\na<b" "a\nleft 1\n"
-    ∷ row "T\n&&lt" "&<\n2 1\nend 4\n"
-    ∷ row "T\n&centerdot" "¢erdot\n2 0\nend 10\n"
+abbrev pub markedInputs : List InputRow
+markedInputs =
+    quotedRow "T\n" "\nend 0\n"
+    ∷ quotedRow "T\n&amp;lt;" "&lt;\nend 8\n"
+    ∷ quotedRow "T\n&notit;x" "¬it;x\n2 0\nend 8\n"
+    ∷ quotedRow "T\n&notin;" "∉\nend 7\n"
+    ∷ quotedRow "A\n&not=1" "&not=1\nend 6\n"
+    ∷ quotedRow "A\n&not" "¬\n2 0\nend 4\n"
+    ∷ quotedRow "T\n&#x110000;" "�\n3 0\nend 10\n"
+    ∷ quotedRow "T\n&#128" "€\n2 0\n3 0\nend 5\n"
+    ∷ quotedRow "T\n&#x;" "&#x;\n1 0\nend 4\n"
+    ∷ quotedRow "T\n&#13;\r\n" "\r\n\n3 0\nend 7\n"
+    ∷ quotedRow "T\n&abc;" "&abc;\n4 0\nend 5\n"
+    ∷ quotedRow "T\na<b" "a\nleft 1\n"
+    ∷ quotedRow "T\n&&lt" "&<\n2 1\nend 4\n"
+    ∷ quotedRow "T\n&centerdot" "¢erdot\n2 0\nend 10\n"
     ∷ []
 
 -- Starts, ends and refusals.
 abbrev pub starts : List InputRow
 starts =
-    row "" "bad context\n"
-    ∷ row "T" "bad context\n"
-    ∷ row "\n" "bad context\n"
-    ∷ row "t\nx" "bad context\n"
-    ∷ row "T\r\nx" "bad context\n"
-    ∷ row "TA\nx" "bad context\n"
-    ∷ row "A\n" "\nend 0\n"
-    ∷ row "A\n\"" "\nleft 0\n"
-    ∷ row "A\nx<y\"z" "x<y\nleft 3\n"
-    ∷ row "T\n\"<" "\"\nleft 1\n"
-    ∷ row "T\n\n" "\n\nend 1\n"
-    ∷ row "T\na\0" "refused 2 1\n"
-    ∷ row "A\n&notit;&not\0\"" "refused 2 11\n"
-    ∷ row "T\n<\0" "\nleft 0\n"
+    quotedRow "" "bad context\n"
+    ∷ quotedRow "T" "bad context\n"
+    ∷ quotedRow "\n" "bad context\n"
+    ∷ quotedRow "t\nx" "bad context\n"
+    ∷ quotedRow "T\r\nx" "bad context\n"
+    ∷ quotedRow "TA\nx" "bad context\n"
+    ∷ quotedRow "A\n" "\nend 0\n"
+    ∷ quotedRow "A\n\"" "\nleft 0\n"
+    ∷ quotedRow "A\nx<y\"z" "x<y\nleft 3\n"
+    ∷ quotedRow "T\n\"<" "\"\nleft 1\n"
+    ∷ quotedRow "T\n\n" "\n\nend 1\n"
+    ∷ quotedRow "T\na\0" "refused 2 1\n"
+    ∷ quotedRow "A\n&notit;&not\0\"" "refused 2 11\n"
+    ∷ quotedRow "T\n<\0" "\nleft 0\n"
     ∷ inputRow (0x54 ∷ 0xA ∷ 0x61 ∷ 0xFF ∷ []) "refused 1 1\n"
     ∷ inputRow (0x54 ∷ 0xA ∷ 0xE2 ∷ 0x3C ∷ []) "refused 1 0\n"
     ∷ inputRow (0x41 ∷ 0xA ∷ 0x22 ∷ 0xFF ∷ []) "\nleft 0\n"
@@ -68,7 +68,7 @@ starts =
     ∷ []
 
 -- The definition gives what each row says.
-pub examples : (map (λ (r : InputRow). reportOf (r .input)) marked ≡ map (λ (r : InputRow). bytes (r .written)) marked)
+pub examples : (map (λ (r : InputRow). reportOf (r .input)) markedInputs ≡ map (λ (r : InputRow). bytes (r .written)) markedInputs)
     × (map (λ (r : InputRow). reportOf (r .input)) starts ≡ map (λ (r : InputRow). bytes (r .written)) starts)
 unfolding computing decimalBy decimal errorLines closingLine sourceReport forInput
 examples = (refl, refl)

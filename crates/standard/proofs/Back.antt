@@ -11,7 +11,7 @@ use Rattle.standard.specs.declared.characters.CharRead.the-variants.{Cha
 use Rattle.standard.specs.declared.characters.Lead.{Lead}
 use Rattle.standard.specs.declared.characters.Lead.the-variants.{Bad, Good}
 use Rattle.standard.specs.Utf8.{leadOf, tails, afterLead, readChar, scalar, octets, encode}
-use Rattle.standard.proofs.Utf8.{upper, Next, Fits, lead-fits, if-char, is-char}
+use Rattle.standard.proofs.Utf8.{upper, Next, LeadSays, lead-says, if-char, is-char}
 use Rattle.standard.proofs.RoundTrip.{sixes, octets-sixes, size-scalar, encode-octets}
 
 -- The tails of a whole character are its last groups of six bits, the first one in its range.
@@ -27,7 +27,7 @@ tails-back (suc n) low high bits len (b ∷ s) a m p q h =
     (omega arith, omega arith, omega arith, ap₂ _∷_ (omega arith) (v .3))
 
 -- A first byte and its tails are the bytes of a scalar value.
-after-back : (b : ℕ) (l : Lead) (s : List ℕ) (a m : ℕ) → Fits b l → afterLead l s ≡ Char a m → (octets a ≡ take m (b ∷ s)) × (scalar a ≡ true)
+after-back : (b : ℕ) (l : Lead) (s : List ℕ) (a m : ℕ) → LeadSays b l → afterLead l s ≡ Char a m → (octets a ≡ take m (b ∷ s)) × (scalar a ≡ true)
 unfolding afterLead
 after-back b Bad s a m k h = absurd (is-char h)
 after-back b (Good n low high bits) s a m k h =
@@ -40,4 +40,4 @@ after-back b (Good n low high bits) s a m k h =
 pub read-back : (s : List ℕ) (a m : ℕ) → readChar s ≡ Char a m → (encode a ≡ take m s) × (scalar a ≡ true)
 unfolding readChar
 read-back [] a m h = absurd (is-char h)
-read-back (b ∷ s) a m h = let w = after-back b (leadOf b) s a m (lead-fits b) h in (encode-octets a (w .1) ∙ w .0, w .1)
+read-back (b ∷ s) a m h = let w = after-back b (leadOf b) s a m (lead-says b) h in (encode-octets a (w .1) ∙ w .0, w .1)

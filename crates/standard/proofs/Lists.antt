@@ -29,14 +29,14 @@ c1Line =
     bytes "80 20AC, 82 201A, 83 0192, 84 201E, 85 2026, 86 2020, 87 2021, 88 02C6, 89 2030, 8A 0160, 8B 2039, 8C 0152, 8E 017D, "
     ++ bytes "91 2018, 92 2019, 93 201C, 94 201D, 95 2022, 96 2013, 97 2014, 98 02DC, 99 2122, 9A 0161, 9B 203A, 9C 0153, 9E 017E, 9F 0178"
 
--- The first k rows of such a line.
-unfoldable pub rowsOf : ℕ → List ℕ → List (ℕ × ℕ)
-rowsOf zero line = []
-rowsOf (suc k) line = (number 16 (take 2 line), number 16 (take 4 (drop 3 line))) ∷ rowsOf k (drop 9 line)
+-- The first k entries of such a line.
+unfoldable pub entriesOf : ℕ → List ℕ → List (ℕ × ℕ)
+entriesOf zero line = []
+entriesOf (suc k) line = (number 16 (take 2 line), number 16 (take 4 (drop 3 line))) ∷ entriesOf k (drop 9 line)
 
 -- The standard's table is that line.
-pub c1-line : replacements ≡ rowsOf 27 c1Line
-unfolding computing rowsOf c1Line
+pub c1-line : replacements ≡ entriesOf 27 c1Line
+unfolding computing entriesOf c1Line
 c1-line = refl
 
 -- '0, D800-DFFF and above 10FFFF give U+FFFD with error 3. 80-9F go through the table, error 3 always. 01-08, 0B, 0D-1F, 7F,
@@ -44,7 +44,7 @@ c1-line = refl
 unfoldable pub meaningListed : ℕ → Meaning
 meaningListed n =
     if eqb n 0 || between 0xD800 0xDFFF n || ltb 0x10FFFF n then means 0xFFFD 3
-    else if between 0x80 0x9F n then means (replacedBy (rowsOf 27 c1Line) n) 3
+    else if between 0x80 0x9F n then means (replacedBy (entriesOf 27 c1Line) n) 3
     else if between 0x1 0x8 n || eqb n 0xB || between 0xD 0x1F n || eqb n 0x7F || noncharacters n then means n 3
     else means n 0
 
@@ -88,7 +88,7 @@ same-is a b e =
     λ i. means (eqb-true (a .char) (b .char) (f .0) i) (eqb-true (a .code) (b .code) (f .1) i)
 
 meanings-low : below 0x100 (λ n. same (meaningOf n) (meaningListed n)) ≡ true
-unfolding computing below same meaningListed rowsOf c1Line
+unfolding computing below same meaningListed entriesOf c1Line
 meanings-low = refl
 
 meanings-high : (n : ℕ) → 0x100 ≤ n → meaningOf n ≡ meaningListed n

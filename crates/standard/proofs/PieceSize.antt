@@ -50,7 +50,7 @@ use Rattle.standard.proofs.Lists.{noncharacters, c1-line, meaningListed
 use Rattle.standard.proofs.Narrow.{Narrow, FoundFits, longest-fits}
 
 -- A piece fits in room bytes: it has some of them, no more errors than bytes, and with narrow names no longer a text.
-pub record Fits (names : List Name) (room : ℕ) (p : Piece) : Type 0 where
+pub record PieceFits (names : List Name) (room : ℕ) (p : Piece) : Type 0 where
   pub some : 1 ≤ p .size
   pub there : p .size ≤ room
   pub few : length (p .codes) ≤ p .size
@@ -65,11 +65,11 @@ front-passes : (p : ℕ → Bool) (s : List ℕ) → All (λ (c : ℕ). p c ≡ 
 front-passes p = front-induction p (λ u s. All (λ (c : ℕ). p c ≡ true) u) (λ s. tt) (λ b u s e rest. (e, rest))
 
 -- What holds of a number and of all that a table has in its second column holds of what the table puts for the number.
-replaced-cases : (P : ℕ → Type 0) (rows : List (ℕ × ℕ)) (n : ℕ) → All (λ (row : ℕ × ℕ). P (row .1)) rows → P n → P (replacedBy rows n)
+replaced-cases : (P : ℕ → Type 0) (entries : List (ℕ × ℕ)) (n : ℕ) → All (λ (entry : ℕ × ℕ). P (entry .1)) entries → P n → P (replacedBy entries n)
 unfolding replacedBy
 replaced-cases P [] n all h = h
-replaced-cases P (row ∷ rows) n all h =
-    let later = replaced-cases P rows n (all .1) h in if-both P (eqb n (row .0)) _ _ (λ t. all .0) (λ f. later)
+replaced-cases P (entry ∷ entries) n all h =
+    let later = replaced-cases P entries n (all .1) h in if-both P (eqb n (entry .0)) _ _ (λ t. all .0) (λ f. later)
 
 -- A number of 16 bits means a character of 16 bits.
 meaning-short : (n : ℕ) → n < 0x10000 → meaningOf n .char < 0x10000
@@ -86,7 +86,8 @@ meaning-short n h =
     replaced : replacedBy replacements n < 0x10000
     replaced =
         replaced-cases (λ (c : ℕ). c < 0x10000) replacements n
-        (every-all (λ (row : ℕ × ℕ). row .1 < 0x10000) (λ row. ltb (row .1) 0x10000) (λ row. ltb-true (row .1) 0x10000) replacements refl) h
+        (every-all (λ (entry : ℕ × ℕ). entry .1 < 0x10000) (λ entry. ltb (entry .1) 0x10000)
+        (λ entry. ltb-true (entry .1) 0x10000) replacements refl) h
 
 -- A number's text is not longer than its digits with their intro: one digit has 16 bits, and two digits with an intro have 4 bytes.
 number-short : (base intro d : ℕ) (ds : List ℕ) → base ≤ 0x10000 → 2 ≤ intro → isDigit base d ≡ true
@@ -99,17 +100,17 @@ number-short base intro d (c ∷ ds) small long e = omega (arith, encode-short (
 
 -- A piece with at most one byte of text and one error fits where its bytes do.
 small-fits : (names : List Name) (room size : ℕ) (text codes : List ℕ) → (1 ≤ size) × (size ≤ room) → length text ≤ 1 → length codes ≤ 1
-    → Fits names room (piece size text codes)
+    → PieceFits names room (piece size text codes)
 small-fits names room size text codes h short few =
     record { some = h .0; there = h .1; few = omega arith; short = λ narrow. omega arith }
 
 -- An `&` alone fits where there is a byte.
-ampersand-fits : (names : List Name) (room error : ℕ) → 1 ≤ room → Fits names room (ampersand error)
+ampersand-fits : (names : List Name) (room error : ℕ) → 1 ≤ room → PieceFits names room (ampersand error)
 ampersand-fits names room error h = small-fits names room 1 (code "&" ∷ []) (listed error) (omega arith) (omega arith) (listed-few error)
 
 -- A number fits where its bytes do, its `;` among them if it has one.
 numbered-fits : (names : List Name) (room size : ℕ) (m : Meaning) (closed : Bool) → 2 ≤ size → size ≤ room → (closed ≡ true → size < room)
-    → length (encode (m .char)) ≤ size → Fits names room (numbered size m closed)
+    → length (encode (m .char)) ≤ size → PieceFits names room (numbered size m closed)
 numbered-fits names room size m true two there more short =
     record { some = omega arith; there = more refl; few = omega (arith, listed-few (m .code)); short = λ narrow. omega arith }
 numbered-fits names room size m false two there more short =
@@ -117,7 +118,7 @@ numbered-fits names room size m false two there more short =
 
 -- Digits that stand at the front of s, or none of them, fit with their intro.
 digits-fit : (names : List Name) (base intro room : ℕ) (ds s : List ℕ) → base ≤ 0x10000 → 2 ≤ intro → intro + length s ≤ room
-    → length ds ≤ length s → All (λ (c : ℕ). isDigit base c ≡ true) ds → Fits names room (digitsThen base intro ds s)
+    → length ds ≤ length s → All (λ (c : ℕ). isDigit base c ≡ true) ds → PieceFits names room (digitsThen base intro ds s)
 unfolding digitsThen
 digits-fit names base intro room [] s small long there fit all =
     ampersand-fits names room absence-of-digits-in-numeric-character-reference (omega arith)
@@ -128,23 +129,23 @@ digits-fit names base intro room (d ∷ ds) s small long there fit all =
 
 -- What digits of a base there are fits with their intro.
 digits-at-fit : (names : List Name) (base intro room : ℕ) (s : List ℕ) → base ≤ 0x10000 → 2 ≤ intro → intro + length s ≤ room
-    → Fits names room (digitsAt base intro s)
+    → PieceFits names room (digitsAt base intro s)
 unfolding digitsAt
 digits-at-fit names base intro room s small long there =
     digits-fit names base intro room (front (isDigit base) s) s small long there (front-length (isDigit base) s) (front-passes (isDigit base) s)
 
 -- What stands after `&#` fits with it.
-numeric-fits : (names : List Name) (room : ℕ) (s : List ℕ) → 2 + length s ≤ room → Fits names room (numeric s)
+numeric-fits : (names : List Name) (room : ℕ) (s : List ℕ) → 2 + length s ≤ room → PieceFits names room (numeric s)
 unfolding numeric
 numeric-fits names room [] h = digits-at-fit names 10 2 room [] (omega arith) (omega arith) h
 numeric-fits names room (c ∷ s) h =
-    if-both (Fits names room) (next (code "x") (c ∷ s) || next (code "X") (c ∷ s)) _ _
+    if-both (PieceFits names room) (next (code "x") (c ∷ s) || next (code "X") (c ∷ s)) _ _
     (λ t. digits-at-fit names 16 3 room s (omega arith) (omega arith) (omega arith))
     (λ f. digits-at-fit names 10 2 room (c ∷ s) (omega arith) (omega arith) h)
 
 -- What a name that fits makes of s fits with its `&`.
 named-fits : (names : List Name) (context : Context) (found : Found) (s : List ℕ) → FoundFits names s found
-    → Fits names (suc (length s)) (namedBy context found s)
+    → PieceFits names (suc (length s)) (namedBy context found s)
 unfolding namedBy
 named-fits names context found s h =
     if-both F (eqb (found .len) 0) _ _ (λ t. alone (if unknownName s then unknown-named-character-reference else no-error))
@@ -153,7 +154,7 @@ named-fits names context found s h =
     (λ f. whole (missing-semicolon-after-character-reference ∷ []) (omega arith))))
   where
     F : Piece → Type 0
-    F = Fits names (suc (length s))
+    F = PieceFits names (suc (length s))
 
     alone : (error : ℕ) → F (ampersand error)
     alone error = ampersand-fits names (suc (length s)) error (omega arith)
@@ -162,15 +163,15 @@ named-fits names context found s h =
     whole codes few = record { some = omega arith; there = omega (arith, h .0); few = omega arith; short = h .1 }
 
 -- What stands after an `&` fits with it.
-reference-fits : (names : List Name) (context : Context) (s : List ℕ) → Fits names (suc (length s)) (reference names context s)
+reference-fits : (names : List Name) (context : Context) (s : List ℕ) → PieceFits names (suc (length s)) (reference names context s)
 unfolding reference
 reference-fits names context s =
-    if-both (Fits names (suc (length s))) (next (code "#") s) _ _
+    if-both (PieceFits names (suc (length s))) (next (code "#") s) _ _
     (λ t. numeric-fits names (suc (length s)) (drop 1 s) (omega (arith, length-drop 1 s, next-there (λ c. eqb c (code "#")) 0 s t)))
     (λ f. named-fits names context (longest names s) s (longest-fits names s))
 
 -- A character that is read fits, and a byte of none does.
-character-fits : (names : List Name) (s : List ℕ) (r : CharRead) → 0 < length s → readChar s ≡ r → Fits names (length s) (character r s)
+character-fits : (names : List Name) (s : List ℕ) (r : CharRead) → 0 < length s → readChar s ≡ r → PieceFits names (length s) (character r s)
 character-fits names s (Char c n) h e =
     let w = read-length s c n e in
     record { some = w .0; there = w .2; few = omega (arith, listed-few (characterCode c)); short = λ narrow. simp length-take (omega arith) }
@@ -179,7 +180,7 @@ character-fits names s (Illformed n) h e = small-fits names (length s) 1 [] [] (
 character-fits names s End h e = small-fits names (length s) 1 [] [] (omega arith) (omega arith) (omega arith)
 
 -- The piece at the front of a source fits.
-pub piece-fits : (names : List Name) (context : Context) (s : List ℕ) → 0 < length s → Fits names (length s) (pieceAt names context s)
+pub piece-fits : (names : List Name) (context : Context) (s : List ℕ) → 0 < length s → PieceFits names (length s) (pieceAt names context s)
 unfolding pieceAt
 piece-fits names context [] h = absurd (omega arith)
 piece-fits names context (c ∷ s) h =
@@ -187,7 +188,7 @@ piece-fits names context (c ∷ s) h =
     (λ f. if-both F (eqb c (code "&")) _ _ (λ t. reference-fits names context s) (λ f. character-fits names (c ∷ s) _ h refl))
   where
     F : Piece → Type 0
-    F = Fits names (suc (length s))
+    F = PieceFits names (suc (length s))
 
     newline : (1 ≤ (if next (code "\n") s then 2 else 1)) × ((if next (code "\n") s then 2 else 1) ≤ suc (length s))
     newline =

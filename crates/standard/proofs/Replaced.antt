@@ -28,14 +28,14 @@ pub value-of : (f : ℕ → ℕ) (count first n : ℕ) → first ≤ n → n < f
 value-of f count first n h k = value-at f count first (n - first) (omega arith) ∙ ap f (omega arith)
 
 -- A number outside the range that the first column is in stays.
-replaced-outside : (low high n : ℕ) (rows : List (ℕ × ℕ)) → every (λ row. between low high (row .0)) rows ≡ true → (n < low) ⊎ (high < n)
-    → replacedBy rows n ≡ n
+replaced-outside : (low high n : ℕ) (entries : List (ℕ × ℕ)) → every (λ entry. between low high (entry .0)) entries ≡ true → (n < low) ⊎ (high < n)
+    → replacedBy entries n ≡ n
 unfolding replacedBy
 replaced-outside low high n [] e h = refl
-replaced-outside low high n (row ∷ rows) e h =
-    let w = and-eq-true-iff (between low high (row .0)) (every (λ row. between low high (row .0)) rows) .0 e in
-    let r = between-true low high (row .0) (w .0) in
-    rw (ne-eqb n (row .0) (λ q. ⊎-elim (λ k. omega arith) (λ k. omega arith) h)) (replaced-outside low high n rows (w .1) h)
+replaced-outside low high n (entry ∷ entries) e h =
+    let w = and-eq-true-iff (between low high (entry .0)) (every (λ entry. between low high (entry .0)) entries) .0 e in
+    let r = between-true low high (entry .0) (w .0) in
+    rw (ne-eqb n (entry .0) (λ q. ⊎-elim (λ k. omega arith) (λ k. omega arith) h)) (replaced-outside low high n entries (w .1) h)
 
 -- A number outside 80 to 9F stays.
 pub outside-c1 : (n : ℕ) → (n < 0x80) ⊎ (0x9F < n) → replacedBy replacements n ≡ n

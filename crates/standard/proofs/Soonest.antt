@@ -12,7 +12,7 @@ use Rattle.standard.specs.declared.characters.CharRead.the-variants.{Cha
 use Rattle.standard.specs.declared.characters.Lead.{Lead}
 use Rattle.standard.specs.declared.characters.Lead.the-variants.{Bad, Good}
 use Rattle.standard.specs.Utf8.{leadOf, tails, afterLead, readChar}
-use Rattle.standard.proofs.Utf8.{Fits, lead-fits, is-char, Settled, read-append, incomplete-length, illformed-length}
+use Rattle.standard.proofs.Utf8.{LeadSays, lead-says, is-char, Settled, read-append, incomplete-length, illformed-length}
 
 -- Some bytes after s make a whole character of it.
 abbrev Completes : (List ℕ → CharRead) → List ℕ → Type 0
@@ -39,7 +39,7 @@ tails-completes (suc need) low high bits len (b ∷ s) n k h =
     (λ t. absurd (subst Settled (rw t at h) tt)) (test? (between low high b))
 
 -- The same after a first byte.
-after-completes : (b : ℕ) (l : Lead) (s : List ℕ) (n : ℕ) → Fits b l → afterLead l s ≡ Incomplete n → Completes (afterLead l) s
+after-completes : (b : ℕ) (l : Lead) (s : List ℕ) (n : ℕ) → LeadSays b l → afterLead l s ≡ Incomplete n → Completes (afterLead l) s
 unfolding afterLead
 after-completes b Bad s n k h = absurd (subst Settled h tt)
 after-completes b (Good need low high bits) s n k h = tails-completes need low high bits 1 s n (k .some) h
@@ -49,7 +49,7 @@ pub incomplete-completes : (s : List ℕ) (n : ℕ) → readChar s ≡ Incomplet
     → (rest : List ℕ) × (c : ℕ) × (m : ℕ) × (readChar (s ++ rest) ≡ Char c m)
 unfolding readChar
 incomplete-completes [] n h = absurd (omega (arith, incomplete-length [] n h))
-incomplete-completes (b ∷ s) n h = after-completes b (leadOf b) s n (lead-fits b) h
+incomplete-completes (b ∷ s) n h = after-completes b (leadOf b) s n (lead-says b) h
 
 -- Where tails are ill-formed after n bytes, those that stand before are a beginning, and with one more they are ill-formed.
 tails-soonest : (need low high bits len : ℕ) (s : List ℕ) (n : ℕ) → tails need low high bits len s ≡ Illformed n → (j : ℕ) × (n ≡ len + j)

@@ -107,26 +107,26 @@ pub record Opens (need b low high bits : ℕ) : Type 0 where
   pub only : (c : ℕ) → bits ≡ upper need c → Next need low high c → Size need c
 
 -- What a lead says of a first byte is so.
-abbrev pub Fits : ℕ → Lead → Type 0
-Fits b Bad = Unit {0}
-Fits b (Good need low high bits) = Opens need b low high bits
+abbrev pub LeadSays : ℕ → Lead → Type 0
+LeadSays b Bad = Unit {0}
+LeadSays b (Good need low high bits) = Opens need b low high bits
 
 -- What leadOf says of a first byte is so.
-pub lead-fits : (b : ℕ) → Fits b (leadOf b)
-lead-fits b =
-    if-both (Fits b) (ltb b 0x80) _ _ (λ t0. omega facts) (λ t0.
-    if-both (Fits b) (ltb b 0xC2) _ _ (λ t1. tt) (λ t1.
-    if-both (Fits b) (ltb b 0xE0) _ _ (λ t2. omega facts) (λ t2.
-    if-both (Fits b) (eqb b 0xE0) _ _ (λ t3. omega facts) (λ t3.
-    if-both (Fits b) (eqb b 0xED) _ _ (λ t4. omega facts) (λ t4.
-    if-both (Fits b) (ltb b 0xF0) _ _ (λ t5. omega facts) (λ t5.
-    if-both (Fits b) (eqb b 0xF0) _ _ (λ t6. omega facts) (λ t6.
-    if-both (Fits b) (ltb b 0xF4) _ _ (λ t7. omega facts) (λ t7.
-    if-both (Fits b) (eqb b 0xF4) _ _ (λ t8. omega facts) (λ t8. tt)))))))))
+pub lead-says : (b : ℕ) → LeadSays b (leadOf b)
+lead-says b =
+    if-both (LeadSays b) (ltb b 0x80) _ _ (λ t0. omega facts) (λ t0.
+    if-both (LeadSays b) (ltb b 0xC2) _ _ (λ t1. tt) (λ t1.
+    if-both (LeadSays b) (ltb b 0xE0) _ _ (λ t2. omega facts) (λ t2.
+    if-both (LeadSays b) (eqb b 0xE0) _ _ (λ t3. omega facts) (λ t3.
+    if-both (LeadSays b) (eqb b 0xED) _ _ (λ t4. omega facts) (λ t4.
+    if-both (LeadSays b) (ltb b 0xF0) _ _ (λ t5. omega facts) (λ t5.
+    if-both (LeadSays b) (eqb b 0xF0) _ _ (λ t6. omega facts) (λ t6.
+    if-both (LeadSays b) (ltb b 0xF4) _ _ (λ t7. omega facts) (λ t7.
+    if-both (LeadSays b) (eqb b 0xF4) _ _ (λ t8. omega facts) (λ t8. tt)))))))))
 
 -- A good first byte asks for at most three more and gives at most seven bits.
 pub lead-most : (b need low high bits : ℕ) → leadOf b ≡ Good need low high bits → (need ≤ 3) × (bits < 128)
-lead-most b need low high bits e = let k = subst (Fits b) e (lead-fits b) in (k .few, k .small)
+lead-most b need low high bits e = let k = subst (LeadSays b) e (lead-says b) in (k .few, k .small)
 
 -- The answer is a whole character.
 abbrev IsChar : CharRead → Type 0
@@ -195,7 +195,7 @@ tails-within (suc n) low high bits len size total (b ∷ s) p d e =
     (λ t. tails-within n 0x80 0xBF (bits * 64 + b % 64) (suc len) size total s (omega arith) (omega arith) (omega arith)) (λ t. omega arith)
 
 -- So far goes the answer after a first byte.
-after-within : (b : ℕ) (l : Lead) (s : List ℕ) → Fits b l → (size : ℕ) × (1 ≤ size) × (size ≤ 4) × Within size (suc (length s)) (afterLead l s)
+after-within : (b : ℕ) (l : Lead) (s : List ℕ) → LeadSays b l → (size : ℕ) × (1 ≤ size) × (size ≤ 4) × Within size (suc (length s)) (afterLead l s)
 unfolding afterLead
 after-within b Bad s h = (1, omega arith, omega arith, omega arith)
 after-within b (Good need low high bits) s h =
@@ -206,7 +206,7 @@ read-within : (s : List ℕ) (r : CharRead) → readChar s ≡ r → (size : ℕ
 unfolding readChar
 read-within [] r e = (1, omega arith, omega arith, subst (Within 1 0) e refl)
 read-within (b ∷ s) r e =
-    let w = after-within b (leadOf b) s (lead-fits b) in (w .0, w .1, w .2, subst (Within (w .0) (suc (length s))) e (w .3))
+    let w = after-within b (leadOf b) s (lead-says b) in (w .0, w .1, w .2, subst (Within (w .0) (suc (length s))) e (w .3))
 
 -- A whole character has one to four bytes, which are there.
 pub read-length : (s : List ℕ) (a m : ℕ) → readChar s ≡ Char a m → (1 ≤ m) × (m ≤ 4) × (m ≤ length s)

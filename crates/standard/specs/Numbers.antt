@@ -47,7 +47,7 @@ replacements =
 -- The second column where the first has the number; else the number itself.
 unfoldable pub replacedBy : List (ℕ × ℕ) → ℕ → ℕ
 replacedBy [] n = n
-replacedBy (row ∷ rows) n = if eqb n (row .0) then row .1 else replacedBy rows n
+replacedBy (entry ∷ entries) n = if eqb n (entry .0) then entry .1 else replacedBy entries n
 
 -- What a number means: a character, and the code of an error or of none.
 pub record Meaning : Type 0 where

@@ -2,7 +2,7 @@
 use native.Mathlib.Omega.{arith}
 use lib.ListN.{length-take}
 use borrow.Author.Needs.{needs}
-use Rattle.reporting.proofs.Bound.{report-fits}
+use Rattle.reporting.proofs.Bound.{written-fits}
 use Rattle.bench.proofs.main.Statement.{statement}
 use Rattle.bench.proofs.main.Tie as tie
 
@@ -28,10 +28,10 @@ report-requires : tie.Need-report-requires
 report-requires c κs = search needs
 
 array-share-prefix-text : tie.Need-array-share-prefix-text
-array-share-prefix-text c = omega (arith, report-fits (c .before .before .report .ensures))
+array-share-prefix-text c = omega (arith, written-fits (c .before .before .report .ensures))
 
 slice-aggregate-write-all : tie.Need-slice-aggregate-write-all
-slice-aggregate-write-all c = simp length-take (omega (arith, report-fits (c .before .before .before .report .ensures)))
+slice-aggregate-write-all c = simp length-take (omega (arith, written-fits (c .before .before .before .report .ensures)))
 
 write-all-requires : tie.Need-write-all-requires
 write-all-requires c κs = search needs

@@ -6,7 +6,7 @@ use borrow.Author.Needs.{needs}
 use lib.ListN.{length}
 use lib.Seq.{sets}
 use Rattle.standard.specs.Answers.{ill-formed}
-use Rattle.escaper.specs.Escape.{stopOf}
+use Rattle.escaper.specs.Escape.{escapeStop}
 use Rattle.escaper.proofs.Answered.{no-fault, answer-long, answer-fault, answer-room, answer-done}
 use Rattle.escaper.proofs.Bound.{escape-six}
 use Rattle.escaper.proofs.escape.Statement.{statement}
@@ -32,7 +32,7 @@ returns-2 c =
     record { answered = rw (f .1) (w .0); texts = ap (sets (a .out .now) 0) (w .1) }
 
 -- Past the second test the input has no fault.
-faultless : (c : tie.Else2) → stopOf (c .before .before .before .before .before .before .args .input .now) .answer ≡ ill-formed → ⊥
+faultless : (c : tie.Else2) → escapeStop (c .before .before .before .before .before .before .args .input .now) .answer ≡ ill-formed → ⊥
 faultless c = rw (c .before .before .find-fault .ensures .0) at (c .if2 .left)
 
 escaped-length-requires : tie.Need-escaped-length-requires

@@ -4,7 +4,7 @@ use native.Mathlib.Omega.{arith}
 use borrow.Author.Needs.{needs}
 use Rattle.standard.specs.Names.{records}
 use Rattle.checker.specs.Meeting.{lent}
-use Rattle.checker.proofs.RowByRow.{RowByRow, row-by-row, next-row, row-stops, row-on, rows-plain, ended}
+use Rattle.checker.proofs.RowByRow.{RowByRow, row-by-row, next-row, row-stops, row-on, rows-plain, after-last}
 use Rattle.checker.proofs.verdicts.judge.Statement.{statement}
 use Rattle.checker.proofs.verdicts.judge.Tie as tie
 
@@ -69,7 +69,7 @@ returns c =
     let c4 = c .before .before .before .before in
     let c5 = c4 .before in
     let w = rows-plain (c4 .loop .inv) (c .before .before .plain-rows .result) (c .before .before .plain-rows .ensures) in
-    ended w (omega (arith, c .before .if1 .taken, c5 .count .ensures)) (c .last-verdict .ensures)
+    after-last w (omega (arith, c .before .if1 .taken, c5 .count .ensures)) (c .last-verdict .ensures)
 
 number-at-requires : tie.Need-number-at-requires Inv-loop μ-loop
 number-at-requires c κs =
@@ -179,7 +179,7 @@ last-verdict-requires-2 c κs = search needs
 returns-3 : tie.Need-returns-3 Inv-loop μ-loop
 returns-3 c =
     let c3 = c .before .before .before in
-    ended (c .before .before .loop .inv) (omega (arith, c .before .loop-test .left, c3 .count .ensures)) (c .last-verdict2 .ensures)
+    after-last (c .before .before .loop .inv) (omega (arith, c .before .loop-test .left, c3 .count .ensures)) (c .last-verdict2 .ensures)
 
 pub judge-spec : {M : Type 1} → statement M
 judge-spec = tie.close

@@ -13,7 +13,7 @@ use Rattle.standard.specs.Pieces.{encodes, namedBy}
 use Rattle.decoder.specs.declared.stream.State.{State}
 use Rattle.decoder.specs.declared.stream.State.the-variants as kind
 use Rattle.decoder.proofs.stream.State.{the-type}
-use Rattle.decoder.specs.Machine.{plain, finish}
+use Rattle.decoder.specs.Machine.{textOnly, finish}
 use Rattle.decoder.specs.Stream.{storeOf, stBy, stOf}
 use Rattle.decoder.specs.Turns.{Fits}
 use Rattle.decoder.proofs.NameTurns.{found-read, name-within, name-part, name-finish}
@@ -23,7 +23,7 @@ use Rattle.decoder.proofs.turns.finish.Tie as tie
 
 -- Where nothing is held nothing is released.
 others : (context : Context) (k : State) (q : ℕ) (s : List ℕ) → OneOf (0 ∷ 1 ∷ 7 ∷ 8 ∷ []) (tagOf the-type k)
-    → plain (storeOf (stBy k q s)) ≡ finish builtin context (stBy k q s)
+    → textOnly (storeOf (stBy k q s)) ≡ finish builtin context (stBy k q s)
 unfolding finish storeOf stBy
 others context kind.Data q s m = refl
 others context kind.AfterCr q s m = refl

@@ -4,19 +4,19 @@ use mathlib.Core.Path.{_≡_}
 use mathlib.Core.Logic.{⊎-map}
 use native.Mathlib.Omega.{arith}
 use borrow.Author.Needs.{needs}
-use Rattle.lists.proofs.Blocks.{Counted, counted-none, counted-more}
+use Rattle.lists.proofs.Blocks.{OddCounted, odd-none, odd-more}
 use Rattle.standard.specs.Runs as spec
 use Rattle.standard.proofs.runs.block_is_of.Statement.{statement}
 use Rattle.standard.proofs.runs.block_is_of.Tie as tie
 
 abbrev Inv-loop : tie.InvT-loop
-Inv-loop kind s at odd₀ i₀ odd i = Counted (spec.isOf kind) s at i odd × (i ≤ 32)
+Inv-loop kind s at odd₀ i₀ odd i = OddCounted (spec.isOf kind) s at i odd × (i ≤ 32)
 
 abbrev μ-loop : tie.MeasureT-loop
 μ-loop kind s at odd₀ i₀ odd i = 32 - i
 
 loop-holds : tie.Need-loop-holds Inv-loop μ-loop
-loop-holds c = (counted-none, omega arith)
+loop-holds c = (odd-none, omega arith)
 
 add-is-of : tie.Need-add-is-of Inv-loop μ-loop
 add-is-of c = omega arith
@@ -39,7 +39,7 @@ loop-less c = omega arith
 loop-again : tie.Need-loop-again Inv-loop μ-loop
 loop-again c =
     let l = c .before .before .before .before .loop in (
-      counted-more (omega arith) (c .before .is-of .ensures) (l .inv .0)
+      odd-more (omega arith) (c .before .is-of .ensures) (l .inv .0)
           (⊎-map (λ w. (w .0 .taken, w .1)) (λ w. (w .0 .left, w .1)) (c .if1 .came)),
       omega arith,
     )

@@ -9,7 +9,7 @@ use Rattle.decoder.proofs.Returns.{
   opened,
   same-state,
   is-fit,
-  accepted,
+  not-refused,
   end-refused,
   end-inside,
   end-done,
@@ -42,13 +42,13 @@ returns c =
 cast-t18 : tie.Need-cast-t18
 cast-t18 c =
     let i = c .before .before .before in
-    let a = accepted _ _ _ _ (i .before .before .is-open .ensures) (i .before .refusal .ensures) (i .if1 .left) in
+    let a = not-refused _ _ _ _ (i .before .before .is-open .ensures) (i .before .refusal .ensures) (i .if1 .left) in
     omega (arith, opened _ (a .is-open) .part)
 
 sub-t19 : tie.Need-sub-t19
 sub-t19 c =
     let i = c .before .before .before in
-    let a = accepted _ _ _ _ (i .before .before .is-open .ensures) (i .before .refusal .ensures) (i .if1 .left) in
+    let a = not-refused _ _ _ _ (i .before .before .is-open .ensures) (i .before .refusal .ensures) (i .if1 .left) in
     omega (arith, opened _ (a .is-open) .were)
 
 closed-requires : tie.Need-closed-requires
@@ -61,7 +61,7 @@ returns-2 c =
     let r = s .args .self in
     let n : length (r .part) ≡ 3 = search (needs, s .good) in
     let i = c .before .before .before .before in
-    let a = accepted r _ _ _ (i .before .before .is-open .ensures) (i .before .refusal .ensures) (i .if1 .left) in
+    let a = not-refused r _ _ _ (i .before .before .is-open .ensures) (i .before .refusal .ensures) (i .if1 .left) in
     let m = length-take-le (r .«part_count») (r .part) (omega (arith, opened r (a .is-open) .part)) in
     feeds-nothing (end-inside _ _ _ (a .is-open) (a .text-room) (a .errors-room) (c .before .before .if2 .taken)) (λ j. record {
       answer = 1;
@@ -75,7 +75,7 @@ returns-2 c =
 canonical-requires : tie.Need-canonical-requires
 canonical-requires c κs =
     let i = c .before .before .before in
-    let a = accepted _ _ _ _ (i .before .before .is-open .ensures) (i .before .refusal .ensures) (i .if1 .left) in
+    let a = not-refused _ _ _ _ (i .before .before .is-open .ensures) (i .before .refusal .ensures) (i .if1 .left) in
     let p = opened _ (a .is-open) in
     (p .count, p .stored)
 
@@ -86,7 +86,7 @@ put-last-requires : tie.Need-put-last-requires
 put-last-requires c κs =
     let i = c .before .before .before .before .before .before .before in
     let r = i .before .before .before .before .before .before .before .args .self in
-    let a = accepted r _ _ _ (i .before .before .is-open .ensures) (i .before .refusal .ensures) (i .if1 .left) in
+    let a = not-refused r _ _ _ (i .before .before .is-open .ensures) (i .before .refusal .ensures) (i .if1 .left) in
     (search needs, is-fit (r .held) (opened r (a .is-open) .stored) (c .before .before .before .canonical .ensures), a .text-room, a .errors-room)
 
 cast-t27 : tie.Need-cast-t27
@@ -110,7 +110,7 @@ returns-3 c =
     let k = w .before .before .before .before in
     let i = k .before .before .before .before in
     let r = i .before .before .before .before .before .before .before .args .self in
-    let a = accepted r _ _ _ (i .before .before .is-open .ensures) (i .before .refusal .ensures) (i .if1 .left) in
+    let a = not-refused r _ _ _ (i .before .before .is-open .ensures) (i .before .refusal .ensures) (i .if1 .left) in
     let e = same-state (r .held) (opened r (a .is-open) .stored) (k .canonical .ensures) in
     rw (end-done _ _ _ (a .is-open) (a .text-room) (a .errors-room) (k .before .before .if2 .left))
     (wrote-feeds (rw e at (w .put-last .ensures .0)) (rw (c .closed2 .ensures)))

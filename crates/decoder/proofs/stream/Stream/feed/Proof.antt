@@ -6,7 +6,7 @@ use Rattle.decoder.proofs.Returns.{
   cleared-open,
   cleared-taken,
   cleared-walk,
-  accepted,
+  not-refused,
   feed-refused,
   feed-walks,
   feeds-nothing,
@@ -40,14 +40,14 @@ slice-aggregate-walk c = search needs
 
 cleared-record-requires : tie.Need-cleared-record-requires
 cleared-record-requires c κs =
-    accepted _ _ _ _ (c .before .before .before .is-open .ensures) (c .before .before .refusal .ensures) (c .before .if1 .left) .is-open
+    not-refused _ _ _ _ (c .before .before .before .is-open .ensures) (c .before .before .refusal .ensures) (c .before .if1 .left) .is-open
 
 walk-requires : tie.Need-walk-requires
 walk-requires c κs =
     let i = c .before .before .before .before .before .before in
     let r = i .before .before .before .before .before .before .args .self in
     let d = c .before .before .before .before in
-    let a = accepted r _ _ _ (i .is-open .ensures) (d .before .refusal .ensures) (d .if1 .left) in
+    let a = not-refused r _ _ _ (i .is-open .ensures) (d .before .refusal .ensures) (d .if1 .left) in
     let p = opened r (a .is-open) in
     let is = c .before .before .cleared-record .ensures in
     (search needs, cleared-open r p is, omega (arith, cleared-taken r p is, a .within))
@@ -57,7 +57,7 @@ walked-to-requires c κs =
     let w = c .before .before .before .before in
     let i = w .before .before .before .before .before .before .before in
     let r = i .before .before .before .before .before .before .args .self in
-    let a = accepted r _ _ _ (i .is-open .ensures) (w .before .before .before .before .before .before .refusal .ensures)
+    let a = not-refused r _ _ _ (i .is-open .ensures) (w .before .before .before .before .before .before .refusal .ensures)
     (w .before .before .before .before .before .if1 .left) in
     let b = w .walk .ensures .1 in (
       omega (arith, cleared-taken r (opened r (a .is-open)) (w .before .before .before .cleared-record .ensures), b .onward),
@@ -77,7 +77,7 @@ returns-2 c =
     let w = c .before .before .before .before .before in
     let i = w .before .before .before .before .before .before .before in
     let a = i .before .before .before .before .before .before .args in
-    let k = accepted (a .self) _ _ _ (i .is-open .ensures) (w .before .before .before .before .before .before .refusal .ensures)
+    let k = not-refused (a .self) _ _ _ (i .is-open .ensures) (w .before .before .before .before .before .before .refusal .ensures)
     (w .before .before .before .before .before .if1 .left) in
     rw (feed-walks _ _ _ (k .is-open) _ (k .short) (k .within) (k .text-room) (k .errors-room))
     (walk-feeds (cleared-walk (a .self) (opened (a .self) (k .is-open)) (w .before .before .before .cleared-record .ensures) (a .chunk .now)
