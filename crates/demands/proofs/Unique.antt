@@ -40,6 +40,16 @@ use Rattle.standard.proofs.names.longest_name.Kinds as longest-name-kinds
 use Rattle.standard.proofs.names.longest_name.Reads as longest-name-reads
 use Rattle.standard.proofs.names.begins_name.Kinds as begins-name-kinds
 use Rattle.standard.proofs.names.begins_name.Reads as begins-name-reads
+use Rattle.standard.proofs.runs.end_of.Kinds as end-of-kinds
+use Rattle.standard.proofs.runs.end_of.Reads as end-of-reads
+use Rattle.standard.proofs.runs.ascii_end.Kinds as ascii-end-kinds
+use Rattle.standard.proofs.runs.ascii_end.Reads as ascii-end-reads
+use Rattle.standard.proofs.runs.ordinary_end.Kinds as ordinary-end-kinds
+use Rattle.standard.proofs.runs.ordinary_end.Reads as ordinary-end-reads
+use Rattle.standard.proofs.runs.plain_end.Kinds as plain-end-kinds
+use Rattle.standard.proofs.runs.plain_end.Reads as plain-end-reads
+use Rattle.standard.proofs.runs.quiet_end.Kinds as quiet-end-kinds
+use Rattle.standard.proofs.runs.quiet_end.Reads as quiet-end-reads
 use Rattle.standard.proofs.table.builtin_names.Kinds as builtin-names-kinds
 use Rattle.standard.proofs.table.builtin_names.Reads as builtin-names-reads
 
@@ -63,6 +73,21 @@ begins-name κs a x y e f p q = only p q
 
 pub builtin-names : Fixes 0 builtin-names-kinds.ps builtin-names-kinds.r builtin-names-reads.Post
 builtin-names κs a x y e f p q = only p q
+
+pub end-of : Fixes 0 end-of-kinds.ps end-of-kinds.r end-of-reads.Post
+end-of κs a x y e f p q = only p q
+
+pub ascii-end : Fixes 1 ascii-end-kinds.ps ascii-end-kinds.r ascii-end-reads.Post
+ascii-end κs a x y e f p q = only p q
+
+pub ordinary-end : Fixes 1 ordinary-end-kinds.ps ordinary-end-kinds.r ordinary-end-reads.Post
+ordinary-end κs a x y e f p q = only p q
+
+pub plain-end : Fixes 1 plain-end-kinds.ps plain-end-kinds.r plain-end-reads.Post
+plain-end κs a x y e f p q = only p q
+
+pub quiet-end : Fixes 1 quiet-end-kinds.ps quiet-end-kinds.r quiet-end-reads.Post
+quiet-end κs a x y e f p q = only p q
 
 pub new-stream : Fixes 0 new-kinds.ps new-kinds.r new-reads.Post
 new-stream κs a x y e f p q = only p q

@@ -43,15 +43,13 @@ fn block_is_of(kind: Kind, s: &[u8], at: usize) -> bool
     requires { ⌜ at + 32 ≤ length (now s) ⌝ }
     ensures { λ r. ⌜ r ≡ every (spec.isOf kind) (take 32 (drop at (now (s .entry)))) ⌝ }
 {
-    let mut odd: u8 = 0;
+    let mut all = true;
     let mut i: usize = 0;
     while i < 32 {
-        if !is_of(kind, s[at + i]) {
-            odd += 1;
-        }
+        all = all & is_of(kind, s[at + i]);
         i += 1;
     }
-    odd == 0
+    all
 }
 
 // Where the bytes of a kind that stand from `from` on end, byte by byte.

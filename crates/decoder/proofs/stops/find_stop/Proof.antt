@@ -46,50 +46,31 @@ returns : tie.Need-returns Inv-loop μ-loop
 returns c =
     let c4 = c .before .before .before .before in
     let c8 = c4 .before .before .before .before in
-    let t = c4 in
-    turn-stops (c8 .args .context) (t .before .before .loop .inv) (t .ordinary-end .ensures) (c .before .before .read-char .ensures)
+    turn-stops (c8 .args .context) (c4 .before .before .loop .inv) (c4 .ordinary-end .ensures) (c .before .before .read-char .ensures)
     (c .before .answer-to .ensures) (c .if1 .taken)
 
 size-of-requires : tie.Need-size-of-requires Inv-loop μ-loop
 size-of-requires c κs = search needs
-
-add-at : tie.Need-add-at Inv-loop μ-loop
-add-at c =
-    let c3 = c .before .before .before in
-    let c5 = c3 .before .before in
-    let c9 = c5 .before .before .before .before in
-    let t = c5 in
-    let l = t .before .before .loop .inv in
-    let turn = turn-on (c9 .args .context) l (t .ordinary-end .ensures) (c3 .read-char .ensures)
-    (c .before .before .answer-to .ensures) (c .before .if1 .left) (c .size-of .ensures) in
-    omega (arith, turn .there)
-
-loop-less : tie.Need-loop-less Inv-loop μ-loop
-loop-less c =
-    let c3 = c .before .before .before in
-    let c5 = c3 .before .before in
-    let c9 = c5 .before .before .before .before in
-    let t = c5 in
-    let l = t .before .before .loop .inv in
-    let turn = turn-passes (c9 .args .context) l (t .ordinary-end .ensures) (c3 .read-char .ensures)
-    (c .before .before .answer-to .ensures) (c .before .if1 .left) (c .size-of .ensures) in
-    omega (
-      arith,
-      turn (t .before .loop-test .taken),
-      turn-on (c9 .args .context) l (t .ordinary-end .ensures) (c3 .read-char .ensures)
-          (c .before .before .answer-to .ensures) (c .before .if1 .left) (c .size-of .ensures) .there,
-    )
 
 loop-again : tie.Need-loop-again Inv-loop μ-loop
 loop-again c =
     let c3 = c .before .before .before in
     let c5 = c3 .before .before in
     let c9 = c5 .before .before .before .before in
-    let t = c5 in
-    let l = t .before .before .loop .inv in
-    let turn = turn-on (c9 .args .context) l (t .ordinary-end .ensures) (c3 .read-char .ensures)
+    turn-on (c9 .args .context) (c5 .before .before .loop .inv) (c5 .ordinary-end .ensures) (c3 .read-char .ensures)
+    (c .before .before .answer-to .ensures) (c .before .if1 .left) (c .size-of .ensures)
+
+add-at : tie.Need-add-at Inv-loop μ-loop
+add-at c = omega (arith, loop-again c .there)
+
+loop-less : tie.Need-loop-less Inv-loop μ-loop
+loop-less c =
+    let c3 = c .before .before .before in
+    let c5 = c3 .before .before in
+    let c9 = c5 .before .before .before .before in
+    let turn = turn-passes (c9 .args .context) (c5 .before .before .loop .inv) (c5 .ordinary-end .ensures) (c3 .read-char .ensures)
     (c .before .before .answer-to .ensures) (c .before .if1 .left) (c .size-of .ensures) in
-    turn
+    omega (arith, turn (c5 .before .loop-test .taken), loop-again c .there)
 
 returns-2 : tie.Need-returns-2 Inv-loop μ-loop
 returns-2 c =

@@ -1,22 +1,21 @@
--- The invariant: odd is 0 exactly if the first i bytes from `at` on are of the kind.
+-- The invariant: all says whether the first i bytes from `at` on are of the kind.
 use Prim.Native.Nat.{_≤_, _-_}
 use mathlib.Core.Path.{_≡_}
-use mathlib.Core.Logic.{⊎-map}
 use native.Mathlib.Omega.{arith}
 use borrow.Author.Needs.{needs}
-use Rattle.lists.proofs.Blocks.{OddCounted, odd-none, odd-more}
+use Rattle.lists.proofs.Blocks.{AllPass, pass-none, pass-more}
 use Rattle.standard.specs.Runs as spec
 use Rattle.standard.proofs.runs.block_is_of.Statement.{statement}
 use Rattle.standard.proofs.runs.block_is_of.Tie as tie
 
 abbrev Inv-loop : tie.InvT-loop
-Inv-loop kind s at odd₀ i₀ odd i = OddCounted (spec.isOf kind) s at i odd × (i ≤ 32)
+Inv-loop kind s at all₀ i₀ all i = AllPass (spec.isOf kind) s at i all × (i ≤ 32)
 
 abbrev μ-loop : tie.MeasureT-loop
-μ-loop kind s at odd₀ i₀ odd i = 32 - i
+μ-loop kind s at all₀ i₀ all i = 32 - i
 
 loop-holds : tie.Need-loop-holds Inv-loop μ-loop
-loop-holds c = (odd-none, omega arith)
+loop-holds c = (pass-none, omega arith)
 
 add-is-of : tie.Need-add-is-of Inv-loop μ-loop
 add-is-of c = omega arith
@@ -27,9 +26,6 @@ shared-slice-read-is-of c = omega arith
 is-of-requires : tie.Need-is-of-requires Inv-loop μ-loop
 is-of-requires c κs = search needs
 
-add-odd : tie.Need-add-odd Inv-loop μ-loop
-add-odd c = omega arith
-
 add-i : tie.Need-add-i Inv-loop μ-loop
 add-i c = omega arith
 
@@ -38,11 +34,8 @@ loop-less c = omega arith
 
 loop-again : tie.Need-loop-again Inv-loop μ-loop
 loop-again c =
-    let l = c .before .before .before .before .loop in (
-      odd-more (omega arith) (c .before .is-of .ensures) (l .inv .0)
-          (⊎-map (λ w. (w .0 .taken, w .1)) (λ w. (w .0 .left, w .1)) (c .if1 .came)),
-      omega arith,
-    )
+    let l = c .before .before .before .loop in
+    (pass-more (omega arith) (c .is-of .ensures) (l .inv .0), omega arith)
 
 returns : tie.Need-returns Inv-loop μ-loop
 returns c =
@@ -60,7 +53,6 @@ block-is-of-spec =
     add-is-of
     shared-slice-read-is-of
     is-of-requires
-    add-odd
     add-i
     loop-less
     loop-again
