@@ -2,12 +2,11 @@
 use Prim.Native.Nat.{ℕ, _+_, _-_, _*_, _≤_, _<_}
 use mathlib.Core.Path.{_≡_, refl, sym, _∙_, subst}
 use mathlib.Core.List.{List}
-use mathlib.Core.Bool.{Bool, true, false, not, _||_}
-use mathlib.Core.Logic.{_⊎_, inl, inr, ⊎-elim}
+use mathlib.Core.Bool.{Bool, true, false, _||_, _&&_}
+use mathlib.Core.Logic.{⊎-elim}
 use native.Mathlib.Omega.{arith}
 use lib.ListN.{length, getD}
-use borrow.Author.Tests.{not-false}
-use Rattle.lists.proofs.Choice.{no-way, below?}
+use Rattle.lists.proofs.Choice.{no-way, below?, and-true}
 use Rattle.checker.specs.Runs.{alike, Alike, AlikeIf, unitRow, UnitRows, PlainRows}
 
 -- Where neither of two tests holds, each fails.
@@ -42,11 +41,9 @@ pub each-more : (p : ℕ → Bool) (n : ℕ) → Each p n → p n ≡ true → E
 each-more p n first e =
     each-join p n 1 first (λ i h. let k : n ≡ n + i = omega arith in subst (λ (j : ℕ). p j ≡ true) k e)
 
--- A count of those of which it does not hold, with one more that was tested.
-pub each-counted : (p : ℕ → Bool) (n : ℕ) {odd odd′ : ℕ} {t : Bool} → t ≡ p n → (odd ≡ 0 → Each p n)
-    → ((not t ≡ true) × (odd′ ≡ odd + 1)) ⊎ ((not t ≡ false) × (odd′ ≡ odd)) → odd′ ≡ 0 → Each p (n + 1)
-each-counted p n e first (inl w) z = absurd (omega arith)
-each-counted p n {t = t} e first (inr w) z = each-more p n (first (omega arith)) (sym e ∙ not-false t (w .0))
+-- Of n where all says so, and of one more by its test t.
+pub each-tested : (p : ℕ → Bool) (n : ℕ) {all t : Bool} → t ≡ p n → (all ≡ true → Each p n) → all && t ≡ true → Each p (n + 1)
+each-tested p n {all} {t} e first z = let w = and-true all t z in each-more p n (first (w .0)) (sym e ∙ w .1)
 
 -- Bytes of which i are alike, and n more.
 pub alike-join : (s : List ℕ) (at : ℕ) (text : List ℕ) (t i n : ℕ) → Alike s at text t i → Alike s (at + i) text (t + i) n

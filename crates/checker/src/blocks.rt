@@ -21,19 +21,17 @@ fn unit_rows(rows: &[u32], row_bytes: &[u8], next: usize) -> bool
     requires { ⌜ next + 96 ≤ length (lent (now rows) (now «row_bytes»)) ⌝ }
     ensures { λ r. ⌜ (r ≡ true → UnitRows (lent (now (rows .entry)) (now («row_bytes» .entry))) next 32) ⌝ }
 {
-    let mut odd: u8 = 0;
+    let mut all = true;
     let mut i: usize = 0;
     while i < 32 {
         let at = next + 3 * i;
         let n = number_at(rows, row_bytes, at);
         let m = number_at(rows, row_bytes, at + 1);
         let k = number_at(rows, row_bytes, at + 2);
-        if !unit(n, m, k) {
-            odd += 1;
-        }
+        all = all & unit(n, m, k);
         i += 1;
     }
-    odd == 0
+    all
 }
 
 // How many rows from next on, in blocks of 32, are one byte each that the text has too; none where rows are judged singly.

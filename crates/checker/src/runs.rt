@@ -18,15 +18,13 @@ pub(crate) fn alike_block(s: &[u8], at: usize, text: &[u8], t: usize) -> bool
     requires { ⌜ (at + 32 ≤ length (now s)) × (t + 32 ≤ length (now text)) ⌝ }
     ensures { λ r. ⌜ (r ≡ true → spec.Alike (now (s .entry)) at (now (text .entry)) t 32) ⌝ }
 {
-    let mut odd: u8 = 0;
+    let mut all = true;
     let mut i: usize = 0;
     while i < 32 {
-        if !alike(s[at + i], text[t + i]) {
-            odd += 1;
-        }
+        all = all & alike(s[at + i], text[t + i]);
         i += 1;
     }
-    odd == 0
+    all
 }
 
 // How many bytes are alike, up to n, byte by byte.

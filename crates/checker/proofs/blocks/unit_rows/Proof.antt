@@ -1,26 +1,25 @@
--- The invariant: where odd is 0, the first i rows from `next` on are of one byte.
+-- The invariant: where all says so, the first i rows from `next` on are of one byte.
 use Prim.Native.Nat.{_≤_, _-_}
 use mathlib.Core.Path.{_≡_, _∙_}
-use mathlib.Core.Logic.{⊎-map, ⊎-elim}
+use mathlib.Core.Bool.{true}
 use native.Mathlib.Omega.{arith}
 use borrow.Author.Needs.{needs}
-use borrow.Author.Tests.{eqb-true}
 use Rattle.checker.specs.Runs.{UnitRows}
 use Rattle.checker.specs.Meeting.{lent}
 use Rattle.checker.proofs.Meetings.{lent-length}
-use Rattle.checker.proofs.RunLaws.{unitAt, each-none, each-counted}
+use Rattle.checker.proofs.RunLaws.{unitAt, each-none, each-tested}
 use Rattle.checker.proofs.blocks.unit_rows.Statement.{statement}
 use Rattle.checker.proofs.blocks.unit_rows.Tie as tie
 
 abbrev Inv-loop : tie.InvT-loop
-Inv-loop rows row-bytes next odd₀ i₀ odd i = (odd ≡ 0 → UnitRows (lent rows row-bytes) next i) × (odd ≤ i) × (i ≤ 32)
+Inv-loop rows row-bytes next all₀ i₀ all i = (all ≡ true → UnitRows (lent rows row-bytes) next i) × (i ≤ 32)
 
 abbrev μ-loop : tie.MeasureT-loop
-μ-loop rows row-bytes next odd₀ i₀ odd i = 32 - i
+μ-loop rows row-bytes next all₀ i₀ all i = 32 - i
 
 loop-holds : tie.Need-loop-holds Inv-loop μ-loop
 loop-holds c =
-    let a = c .before .before .args in (λ z. each-none (unitAt (lent (a .rows .now) (a .row-bytes .now)) (a .next)), omega arith, omega arith)
+    let a = c .before .before .args in (λ z. each-none (unitAt (lent (a .rows .now) (a .row-bytes .now)) (a .next)), omega arith)
 
 mul-at : tie.Need-mul-at Inv-loop μ-loop
 mul-at c = omega arith
@@ -52,9 +51,6 @@ number-at-requires-3 c κs = omega arith
 unit-requires : tie.Need-unit-requires Inv-loop μ-loop
 unit-requires c κs = search needs
 
-add-odd : tie.Need-add-odd Inv-loop μ-loop
-add-odd c = omega arith
-
 add-i : tie.Need-add-i Inv-loop μ-loop
 add-i c = omega arith
 
@@ -64,15 +60,10 @@ loop-less c = omega arith
 loop-again : tie.Need-loop-again Inv-loop μ-loop
 loop-again c =
     let c3 = c .before .before .before in
-    let c4 = c3 .before in
-    let c6 = c4 .before .before in
-    let c9 = c6 .before .before .before in
-    let a = c9 .args in
-    let l = c6 .loop in (
-      each-counted (unitAt (lent (a .rows .now) (a .row-bytes .now)) (a .next)) (l .i)
-          (c .before .unit .ensures ∙ rw (c4 .number-at .ensures, c3 .number-at2 .ensures, c .before .before .number-at3 .ensures)) (l .inv .0)
-          (⊎-map (λ w. (w .0 .taken, w .1)) (λ w. (w .0 .left, w .1)) (c .if1 .came)),
-      ⊎-elim (λ w. omega (arith, w .1)) (λ w. omega (arith, w .1)) (c .if1 .came),
+    let l = c3 .before .before .loop in
+    let a = c3 .before .before .before .before .before .args in (
+      each-tested (unitAt (lent (a .rows .now) (a .row-bytes .now)) (a .next)) (l .i)
+          (c .unit .ensures ∙ rw (c3 .number-at .ensures, c .before .before .number-at2 .ensures, c .before .number-at3 .ensures)) (l .inv .0),
       omega arith,
     )
 
@@ -80,9 +71,9 @@ returns : tie.Need-returns Inv-loop μ-loop
 returns c t =
     let l = c .before .loop in
     let e : l .i ≡ 32 = omega arith in
-    rw e at (l .inv .0 (eqb-true _ 0 t))
+    rw e at (l .inv .0 t)
 
 pub unit-rows-spec : {M : Type 1} → statement M
 unit-rows-spec = tie.close
     (tie.spec Inv-loop μ-loop loop-holds mul-at add-at number-at-requires add-number-at number-at-requires-2 add-number-at-2 number-at-requires-3
-    unit-requires add-odd add-i loop-less loop-again returns)
+    unit-requires add-i loop-less loop-again returns)
