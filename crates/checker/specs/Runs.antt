@@ -3,18 +3,26 @@ use Prim.Native.Nat.{ℕ, _+_, _*_, _≤_, _<_}
 use Prim.Native.Char.{code}
 use mathlib.Core.Path.{_≡_}
 use mathlib.Core.List.{List}
-use mathlib.Core.Bool.{Bool, true, false, not, _&&_}
+use mathlib.Core.Bool.{Bool, true, false, not, _||_, _&&_}
 use lib.Dec.{ltb, eqb}
 use lib.ListN.{length, getD}
-use Rattle.standard.specs.Runs.{standing}
+use Rattle.lists.specs.Notation.{between}
+
+-- A byte that is a character of its own and stops no reading: ASCII but NUL and the end.
+abbrev pub quiet : ℕ → ℕ → Bool
+quiet end b = between 0x1 0x7F b && not (eqb b end)
+
+-- The n bytes from at on are quiet.
+abbrev pub Quiet : (end : ℕ) (s : List ℕ) (at n : ℕ) → Type 0
+Quiet end s at n = (i : ℕ) → i < n → quiet end (getD s (at + i) 0) ≡ true
 
 -- An ASCII byte that stands for itself, with an error or without.
 abbrev pub lone : ℕ → Bool
 lone b = ltb b 0x80 && not (eqb b (code "\r")) && not (eqb b (code "&"))
 
--- A byte that is a piece and its own text, without an error, and is the byte c too.
+-- A byte that is a piece and its own text, without an error, and is the byte c too: LF, tab, or printable ASCII but `&`.
 abbrev pub alike : ℕ → ℕ → Bool
-alike b c = standing b && eqb b c
+alike b c = (between 0x20 0x7E b && not (eqb b (code "&")) || eqb b 0xA || eqb b 0x9) && eqb b c
 
 -- The n bytes of s from at on and those of text from t on are alike.
 abbrev pub Alike : (s : List ℕ) (at : ℕ) (text : List ℕ) (t n : ℕ) → Type 0

@@ -2,10 +2,10 @@
 ghost use mathlib.Core.Path.{_≡_};
 ghost use Rattle.standard.specs.Contexts.{ends};
 ghost use Rattle.standard.specs.Reading.{callsFor, stopOf};
+use crate::runs::quiet_run;
 use standard::Context;
 use standard::characters::CharRead;
 use standard::characters::read_char;
-use standard::runs::ordinary_end;
 
 // Why reading stops, and after how many bytes.
 pub(crate) struct Fault {
@@ -42,7 +42,7 @@ pub(crate) fn find_fault(context: Context, s: &[u8]) -> Fault
 {
     let mut at: usize = 0;
     while at < s.len() {
-        let from = ordinary_end(context, s, at);
+        let from = quiet_run(context, s, at);
         if from == s.len() {
             return Fault {
                 answer: 0,

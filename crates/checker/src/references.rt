@@ -1,6 +1,6 @@
 // Numbers of references: their digits, and what they mean by document 01's lists.
 ghost use mathlib.Core.Path.{_≡_};
-ghost use Prim.Native.Nat.{_≤_, _<_, _+_, _*_, min};
+ghost use Prim.Native.Nat.{_≤_, _+_, _*_, min};
 ghost use lib.ListN.{length, drop};
 ghost use Rattle.lists.specs.Notation.{front};
 ghost use Rattle.standard.specs.Numbers.{isDigit, number, replacements, replacedBy, meaningOf};

@@ -1,10 +1,74 @@
-// Runs, in blocks: bytes that a source and its text have alike. A run may end early: it spares work and settles nothing. The loop over a block has
-// no early end, so it is done many bytes at a time.
+// Runs, in blocks: bytes that stop no reading, and bytes that a source and its text have alike. A run may end early: it spares work and settles
+// nothing. The loops over a block have no early end, so they are done many bytes at a time. The decoder has runs of its own, of the crate `runs`.
 ghost use mathlib.Core.Path.{_≡_};
 ghost use mathlib.Core.Bool.{true};
-ghost use Prim.Native.Nat.{_≤_, _<_, _+_, _-_};
+ghost use Prim.Native.Nat.{_≤_, _+_, _-_};
 ghost use lib.ListN.{length};
+ghost use Rattle.standard.specs.Contexts.{endByte};
 ghost use Rattle.checker.specs.Runs as spec;
+use standard::Context;
+
+// The byte before which a source ends.
+fn end_of(context: Context) -> u8
+    ensures { λ r. ⌜ r ≡ endByte context ⌝ }
+{
+    match context {
+        Context::Text => b'<',
+        Context::Attribute => b'"',
+    }
+}
+
+// A byte that is a character of its own and stops no reading, where a source ends before end.
+fn quiet(b: u8, end: u8) -> bool
+    ensures { λ r. ⌜ r ≡ spec.quiet end b ⌝ }
+{
+    (0x1 <= b) & (b <= 0x7F) & (b != end)
+}
+
+// Whether the 64 bytes from at on are quiet.
+fn quiet_block(s: &[u8], at: usize, end: u8) -> bool
+    requires { ⌜ at + 64 ≤ length (now s) ⌝ }
+    ensures { λ r. ⌜ (r ≡ true → spec.Quiet end (now (s .entry)) at 64) ⌝ }
+{
+    let mut all = true;
+    let mut i: usize = 0;
+    while i < 64 {
+        all = all & quiet(s[at + i], end);
+        i += 1;
+    }
+    all
+}
+
+// The place up to which the bytes from `from` on are quiet, byte by byte.
+fn quiet_bytes(s: &[u8], from: usize, end: u8) -> usize
+    requires { ⌜ from ≤ length (now s) ⌝ }
+    ensures { λ r. ⌜ (from ≤ r) × (r ≤ length (now (s .entry))) × spec.Quiet end (now (s .entry)) from (r - from) ⌝ }
+{
+    let mut at = from;
+    while at < s.len() {
+        if !quiet(s[at], end) {
+            return at;
+        }
+        at += 1;
+    }
+    at
+}
+
+// The same, in blocks as long as they are quiet.
+pub(crate) fn quiet_run(context: Context, s: &[u8], from: usize) -> usize
+    requires { ⌜ from ≤ length (now s) ⌝ }
+    ensures { λ r. ⌜ (from ≤ r) × (r ≤ length (now (s .entry))) × spec.Quiet (endByte context) (now (s .entry)) from (r - from) ⌝ }
+{
+    let end = end_of(context);
+    let mut at = from;
+    while 64 <= s.len() - at {
+        if !quiet_block(s, at, end) {
+            return quiet_bytes(s, at, end);
+        }
+        at += 64;
+    }
+    quiet_bytes(s, at, end)
+}
 
 // A byte that is a piece and its own text, without an error, and is the byte c too.
 pub(crate) fn alike(b: u8, c: u8) -> bool

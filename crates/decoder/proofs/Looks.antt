@@ -21,8 +21,8 @@ use Rattle.standard.proofs.Back.{read-back}
 use Rattle.standard.proofs.Computing.{computing}
 use Rattle.standard.proofs.Lists.{below, below-at}
 use Rattle.standard.proofs.Utf8.{read-length}
-use Rattle.standard.specs.Runs.{standing}
-use Rattle.standard.proofs.RunLaws.{standing-is}
+use Rattle.runs.specs.Kinds.{standing}
+use Rattle.decoder.proofs.Quiet.{standing-is}
 
 -- A character c of n bytes is at the front of s.
 pub data Looks : List ℕ → ℕ → ℕ → Type 0 where

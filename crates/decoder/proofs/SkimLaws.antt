@@ -40,7 +40,8 @@ use Rattle.decoder.specs.declared.stream.Held.{Held}
 use Rattle.decoder.specs.declared.stream.Stream.{Stream}
 use Rattle.decoder.specs.Machine.{Data, Step, nothing, stepData, step}
 use Rattle.decoder.specs.Pieces.{pieceOf, oneOf}
-use Rattle.standard.specs.Runs.{plain, endByte}
+use Rattle.standard.specs.Contexts.{endByte}
+use Rattle.runs.specs.Kinds.{plain}
 use Rattle.decoder.specs.Stream.{At, atBy, Walked, stopsAt, onward, lacksRoom, walk, isPart, stBy, heldOf, recordOf, atOf}
 use Rattle.decoder.specs.Turns.{Fits}
 use Rattle.decoder.specs.Feeding.{OpenAt, Open, Moves}
@@ -49,7 +50,8 @@ use Rattle.decoder.proofs.ClosedReferences.{Passes, walk-closed}
 use Rattle.decoder.proofs.PieceLaws.{character-read}
 use Rattle.decoder.proofs.Room.{room-only}
 use Rattle.decoder.proofs.Looks.{Looks, ascii, wide, looks, passes-ascii, alphanumeric-ascii}
-use Rattle.standard.proofs.RunLaws.{plain-is, plain-calls, calls-none}
+use Rattle.standard.proofs.Stops.{calls-none}
+use Rattle.decoder.proofs.Quiet.{plain-is, plain-calls}
 use Rattle.decoder.proofs.Unfolding.{all-append}
 use Rattle.decoder.proofs.Room.{room-so}
 use Rattle.decoder.proofs.Walks.{walk-more, walk-char}
@@ -264,9 +266,9 @@ front-every p (c ∷ s) = go (p c) refl (front-every p s)
     go false e later = refl
 
 -- Plain bytes from at on, of as many as have their room.
-pub run-runs : (context : Context) (s : List ℕ) (at free : ℕ) → at ≤ length s → 64 ≤ free → {limit end : ℕ} → limit ≡ min (length s - at) (free - 63)
+pub run-plain : (context : Context) (s : List ℕ) (at free : ℕ) → at ≤ length s → 64 ≤ free → {limit end : ℕ} → limit ≡ min (length s - at) (free - 63)
     → end ≡ at + length (front (plain (endByte context)) (drop at (take (at + limit) s))) → PlainRun context s at free end
-run-runs context s at free there room {limit} {end} limit-is end-is =
+run-plain context s at free there room {limit} {end} limit-is end-is =
     let few = front-length p l in
     let short = length-drop at (take (at + limit) s) in
     let few-more = length-take (at + limit) s in record {

@@ -13,16 +13,22 @@ use Rattle.standard.specs.Utf8.{readChar}
 use Rattle.standard.specs.Answers.{done}
 use Rattle.standard.specs.Reading.{callsFor, answerTo, sizeOf, Stop, stopOf}
 use Rattle.standard.proofs.Skips.{rest-from}
-use Rattle.standard.proofs.Looking.{Looking, looking-stops, looking-on, size-some}
-use Rattle.standard.specs.Runs.{endByte, ordinary}
-use Rattle.standard.proofs.RunLaws.{looking-run}
+use Rattle.standard.proofs.Looking.{Looking, looking-stops, looking-on, looking-run, size-some}
+use Rattle.decoder.proofs.Quiet.{ordinary-is}
+use Rattle.standard.specs.Contexts.{endByte}
+use Rattle.runs.specs.Kinds.{ordinary}
+
+-- A run of ordinary bytes is passed.
+pub run-passed : (context : Context) {s : List ℕ} {at from : ℕ} → Looking (callsFor context) s at
+    → from ≡ at + length (front (ordinary (endByte context)) (drop at s)) → Looking (callsFor context) s from
+run-passed context l is = looking-run l (ordinary (endByte context)) (ordinary-is context) is
 
 -- One turn: after a run of ordinary bytes what stands at from is read.
 module _ (context : Context) {s : List ℕ} {at from : ℕ} {read : CharRead} (l : Looking (callsFor context) s at)
     (is : from ≡ at + length (front (ordinary (endByte context)) (drop at s))) where
   module _ (reads : read ≡ readChar (take (length s - from) (drop from s))) where
     at-from : Looking (callsFor context) s from
-    at-from = looking-run context l is
+    at-from = run-passed context l is
 
     read-is : read ≡ readChar (drop from s)
     read-is = reads ∙ ap readChar (rest-from s from)

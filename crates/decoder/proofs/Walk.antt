@@ -27,10 +27,11 @@ use Rattle.standard.proofs.Skips.{rest-from}
 use Rattle.rooms.proofs.Fits.{numbers-fit}
 use Rattle.decoder.specs.declared.pieces.Piece.{Piece}
 use Rattle.decoder.specs.Pieces.{pieceOf}
-use Rattle.standard.specs.Runs.{plain, endByte}
+use Rattle.standard.specs.Contexts.{endByte}
+use Rattle.runs.specs.Kinds.{plain}
 use Rattle.decoder.specs.Skims.{PlainRun}
 use Rattle.decoder.specs.Writing.{WroteBy, Wrote, readFrom, Advances}
-use Rattle.standard.proofs.RunLaws.{plain-is}
+use Rattle.decoder.proofs.Quiet.{plain-is}
 use Rattle.decoder.proofs.Writing.{by-none, by-join, wrote-text, wrote-join}
 
 -- A piece that is read at at.

@@ -17,7 +17,8 @@ use Rattle.decoder.specs.Writing.{Wrote}
 use Rattle.decoder.specs.declared.pieces.Piece.{Piece}
 use Rattle.decoder.specs.Machine.{Data}
 use Rattle.decoder.specs.Pieces.{pieceOf, noneOf}
-use Rattle.standard.specs.Runs.{plain, endByte}
+use Rattle.standard.specs.Contexts.{endByte}
+use Rattle.runs.specs.Kinds.{plain}
 use Rattle.decoder.specs.Stream.{atBy, stopsAt, walk}
 
 -- The bytes of s from at to end are plain, and before each of them 64 of free bytes are free.

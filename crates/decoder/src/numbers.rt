@@ -1,6 +1,6 @@
 // Numeric character references: `do_numeric` and `finish_numeric` of char_ref/mod.rs.
 ghost use mathlib.Core.Path.{_≡_};
-ghost use Prim.Native.Nat.{_≤_, _<_, _+_, _*_, min};
+ghost use Prim.Native.Nat.{_≤_, _+_, _*_, min};
 ghost use lib.ListN.{length, drop};
 ghost use Rattle.lists.specs.Notation.{front};
 ghost use Rattle.standard.specs.Numbers.{digitOf, isDigit, number, replacements, replacedBy, meaningOf};

@@ -1,7 +1,7 @@
 // One piece: a newline, a character that stands for itself, or a reference. It is read from a slice and handed back as a value;
 // whoever has a room writes it.
 ghost use mathlib.Core.Path.{_≡_};
-ghost use Prim.Native.Nat.{_≤_, _<_, _+_};
+ghost use Prim.Native.Nat.{_≤_, _<_};
 ghost use lib.ListN.{length, drop};
 ghost use Rattle.lists.specs.Notation.{if_then_else_, next};
 ghost use Rattle.standard.specs.Utf8.{readChar};

@@ -3,23 +3,27 @@
 ghost use mathlib.Core.Path.{_≡_};
 ghost use Prim.Native.Nat.{_≤_, _<_, _+_, _-_, min};
 ghost use lib.ListN.{length, getD, take, drop};
+ghost use Rattle.lists.specs.Notation.{front};
 ghost use Rattle.lists.specs.Rooms.{Put};
+ghost use Rattle.standard.specs.Contexts.{endByte};
 ghost use Rattle.standard.specs.Names.{tableOf};
 ghost use Rattle.standard.specs.NameList.{builtin};
+ghost use Rattle.runs.specs.Kinds.{plain};
 ghost use Rattle.decoder.specs.Skims.{PlainRun, inReference, Ends, Alone, hasRoom, Skims};
 use crate::classes::alphanumeric;
 use crate::classes::character_code;
 use crate::pieces::Piece;
 use crate::pieces::reference;
 use crate::stops::calls_for;
+use crate::stops::end_of;
 use crate::writers::Reached;
 use crate::writers::lacks_room;
 use crate::writers::put_piece;
 use standard::Context;
 use standard::characters::CharRead;
 use standard::characters::read_char;
-use standard::runs::plain_end;
 
+// The lesser of two numbers.
 fn least(a: usize, b: usize) -> usize
     ensures { λ r. ⌜ r ≡ min a b ⌝ }
 {
@@ -27,6 +31,13 @@ fn least(a: usize, b: usize) -> usize
         return a;
     }
     b
+}
+
+// The place after the bytes from `from` on that are characters of their own and stand for themselves, without an error.
+fn plain_run(context: Context, s: &[u8], from: usize) -> usize
+    ensures { λ r. ⌜ r ≡ from + length (front (plain (endByte context)) (drop from (now (s .entry)))) ⌝ }
+{
+    runs::plain_end(end_of(context), s, from)
 }
 
 // The place in the chunk up to which it was read, and the place after its text.
@@ -49,7 +60,7 @@ pub(crate) fn copy_run(
 {
     let free = text.len() - w - 63;
     let limit = least(chunk.len() - at, free);
-    let end = plain_end(context, &chunk[..at + limit], at);
+    let end = plain_run(context, &chunk[..at + limit], at);
     Copied {
         at: end,
         text: rooms::copy(&chunk[at..end], text, w),

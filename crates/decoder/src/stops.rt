@@ -1,11 +1,14 @@
 // Where a source stops, and why.
 ghost use mathlib.Core.Path.{_≡_};
+ghost use Prim.Native.Nat.{_+_};
+ghost use lib.ListN.{length, drop};
+ghost use Rattle.lists.specs.Notation.{front};
+ghost use Rattle.standard.specs.Contexts.{endByte};
 ghost use Rattle.standard.specs.Reading.{callsFor, answerTo, sizeOf, stopOf};
+ghost use Rattle.runs.specs.Kinds.{ordinary};
 use standard::Context;
 use standard::characters::CharRead;
 use standard::characters::read_char;
-use standard::runs::end_of;
-use standard::runs::ordinary_end;
 
 // Why reading stops, and after how many bytes.
 pub(crate) struct Stopped {
@@ -13,6 +16,17 @@ pub(crate) struct Stopped {
     pub place: usize,
 }
 
+// The byte before which a source ends.
+pub(crate) fn end_of(context: Context) -> u8
+    ensures { λ r. ⌜ r ≡ endByte context ⌝ }
+{
+    match context {
+        Context::Text => b'<',
+        Context::Attribute => b'"',
+    }
+}
+
+// A byte as a character.
 fn wide(b: u8) -> u32
     ensures { λ r. ⌜ r ≡ b ⌝ }
 {
@@ -56,13 +70,20 @@ fn size_of(read: CharRead) -> usize
     }
 }
 
+// The place after the bytes from `from` on that are characters of their own and stop no reading.
+fn ordinary_run(context: Context, s: &[u8], from: usize) -> usize
+    ensures { λ r. ⌜ r ≡ from + length (front (ordinary (endByte context)) (drop from (now (s .entry)))) ⌝ }
+{
+    runs::ordinary_end(end_of(context), s, from)
+}
+
 // Where a source stops: runs of ordinary bytes are passed at once, and each other character is read.
 pub(crate) fn find_stop(context: Context, s: &[u8]) -> Stopped
     ensures { λ r. ⌜ (r .answer ≡ stopOf context (now (s .entry)) .answer) × (r .place ≡ stopOf context (now (s .entry)) .place) ⌝ }
 {
     let mut at: usize = 0;
     while at < s.len() {
-        let from = ordinary_end(context, s, at);
+        let from = ordinary_run(context, s, at);
         let read = read_char(&s[from..]);
         let answer = answer_to(context, read);
         if answer != 0 {

@@ -47,6 +47,7 @@ fn put_byte(text: &mut [u8], at: usize, high: u32, low: u32) -> usize
     at + 1
 }
 
+// The bytes of a number below 110000 hex, as those of a character are laid out.
 fn put_octets(text: &mut [u8], at: usize, c: u32) -> usize
     requires { ⌜ (at + 4 ≤ length (now text)) × (c < 0x110000) ⌝ }
     ensures { λ r. ⌜ Put (now (text .entry)) at (octets c) (now (text .exit)) r ⌝ }

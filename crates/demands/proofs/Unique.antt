@@ -34,22 +34,20 @@ use Rattle.rooms.proofs.copy.Kinds as copy-kinds
 use Rattle.rooms.proofs.copy.Reads as copy-reads
 use Rattle.rooms.proofs.put_numbers.Kinds as put-numbers-kinds
 use Rattle.rooms.proofs.put_numbers.Reads as put-numbers-reads
+use Rattle.runs.proofs.ascii_end.Kinds as ascii-end-kinds
+use Rattle.runs.proofs.ascii_end.Reads as ascii-end-reads
+use Rattle.runs.proofs.ordinary_end.Kinds as ordinary-end-kinds
+use Rattle.runs.proofs.ordinary_end.Reads as ordinary-end-reads
+use Rattle.runs.proofs.plain_end.Kinds as plain-end-kinds
+use Rattle.runs.proofs.plain_end.Reads as plain-end-reads
+use Rattle.runs.proofs.quiet_end.Kinds as quiet-end-kinds
+use Rattle.runs.proofs.quiet_end.Reads as quiet-end-reads
 use Rattle.standard.proofs.characters.read_char.Kinds as read-char-kinds
 use Rattle.standard.proofs.characters.read_char.Reads as read-char-reads
 use Rattle.standard.proofs.names.longest_name.Kinds as longest-name-kinds
 use Rattle.standard.proofs.names.longest_name.Reads as longest-name-reads
 use Rattle.standard.proofs.names.begins_name.Kinds as begins-name-kinds
 use Rattle.standard.proofs.names.begins_name.Reads as begins-name-reads
-use Rattle.standard.proofs.runs.end_of.Kinds as end-of-kinds
-use Rattle.standard.proofs.runs.end_of.Reads as end-of-reads
-use Rattle.standard.proofs.runs.ascii_end.Kinds as ascii-end-kinds
-use Rattle.standard.proofs.runs.ascii_end.Reads as ascii-end-reads
-use Rattle.standard.proofs.runs.ordinary_end.Kinds as ordinary-end-kinds
-use Rattle.standard.proofs.runs.ordinary_end.Reads as ordinary-end-reads
-use Rattle.standard.proofs.runs.plain_end.Kinds as plain-end-kinds
-use Rattle.standard.proofs.runs.plain_end.Reads as plain-end-reads
-use Rattle.standard.proofs.runs.quiet_end.Kinds as quiet-end-kinds
-use Rattle.standard.proofs.runs.quiet_end.Reads as quiet-end-reads
 use Rattle.standard.proofs.table.builtin_names.Kinds as builtin-names-kinds
 use Rattle.standard.proofs.table.builtin_names.Reads as builtin-names-reads
 
@@ -73,9 +71,6 @@ begins-name κs a x y e f p q = only p q
 
 pub builtin-names : Fixes 0 builtin-names-kinds.ps builtin-names-kinds.r builtin-names-reads.Post
 builtin-names κs a x y e f p q = only p q
-
-pub end-of : Fixes 0 end-of-kinds.ps end-of-kinds.r end-of-reads.Post
-end-of κs a x y e f p q = only p q
 
 pub ascii-end : Fixes 1 ascii-end-kinds.ps ascii-end-kinds.r ascii-end-reads.Post
 ascii-end κs a x y e f p q = only p q

@@ -20,7 +20,7 @@ use Rattle.escaper.specs.declared.Mode.the-variants.{Text, Attribute}
 use Rattle.escaper.specs.declared.specials.Special.{Special}
 use Rattle.escaper.specs.declared.specials.Special.the-variants.{Quot}
 use Rattle.escaper.specs.Escape.{writtenFor}
-use Rattle.standard.specs.Runs.{quiet}
+use Rattle.runs.specs.Kinds.{quiet}
 use Rattle.escaper.specs.Walk.{quoteOf, specialOf, sourceLength, textOf}
 
 -- A character c of n bytes is what x says: it has as many bytes, and the same is written for it.

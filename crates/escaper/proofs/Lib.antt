@@ -1,4 +1,3 @@
-pub mod Stopping
 pub mod Quiet
 pub mod Begins
 pub mod Walking

@@ -19,7 +19,7 @@ use Rattle.standard.proofs.Back.{read-back}
 use Rattle.escaper.specs.declared.Mode.{Mode}
 use Rattle.escaper.specs.declared.Mode.the-variants.{Text, Attribute}
 use Rattle.escaper.specs.Escape.{writtenFor}
-use Rattle.standard.specs.Runs.{quiet}
+use Rattle.runs.specs.Kinds.{quiet}
 use Rattle.escaper.specs.Walk.{quoteOf}
 
 -- The byte of a mode is ASCII.

@@ -17,13 +17,13 @@ use Rattle.standard.specs.Answers.{done}
 use Rattle.standard.specs.Reading.{answerTo, sizeOf, Stop, stops, stopFrom}
 use Rattle.standard.proofs.Utf8.{read-length, end-length, is-char}
 use Rattle.standard.proofs.Skips.{drop-pred, skip-drops}
+use Rattle.standard.proofs.Stops.{stop-unfold}
 use Rattle.escaper.specs.declared.Mode.{Mode}
 use Rattle.escaper.specs.Escape.{writtenFor, escapeFrom, escape}
 use Rattle.escaper.specs.declared.specials.Special.{Special}
-use Rattle.standard.specs.Runs.{quiet}
+use Rattle.runs.specs.Kinds.{quiet}
 use Rattle.escaper.specs.Walk.{quoteOf, specialOf, sourceLength, textOf}
 use Rattle.escaper.proofs.Begins.{special-begins}
-use Rattle.escaper.proofs.Stopping.{stopAt, stop-character}
 use Rattle.escaper.proofs.Quiet.{quiet-character}
 
 -- Bytes whose next character begins after skip of them, with place bytes before them, are well-formed.
@@ -98,7 +98,7 @@ front-ends p (c ∷ s) =
 -- An input is read as far as `at`: the bytes from there on are well-formed.
 pub record Sound (s : List ℕ) (at : ℕ) : Type 0 where
   pub there : at ≤ length s
-  pub well-formed : stopAt s at .answer ≡ done
+  pub well-formed : stopFrom (λ c. done) 0 at (drop at s) .answer ≡ done
 
 -- From `at` to next u is written.
 pub record Moves (mode : Mode) (s : List ℕ) (at : ℕ) (u : List ℕ) (next : ℕ) : Type 0 where
@@ -127,6 +127,17 @@ run-moves mode s at next h e =
 sound-character : (place : ℕ) (s : List ℕ) → 0 < length s → WellFormed 0 place s → (c : ℕ) × (n : ℕ) × (readChar s ≡ Char c n)
 sound-character place [] h w = absurd (omega arith)
 sound-character place (b ∷ s) h w = let k = well-formed-character place b s w in (k .0, k .1, k .2)
+
+-- A character is passed, and it is there.
+stop-character : (s : List ℕ) (at c n : ℕ) → at < length s → readChar (drop at s) ≡ Char c n
+    → (stopFrom (λ c. done) 0 at (drop at s) ≡ stopFrom (λ c. done) 0 (at + n) (drop (at + n) s)) × (1 ≤ n) × (at + n ≤ length s)
+stop-character s at c n h e =
+    let w = read-length (drop at s) c n e in
+    let l = length-drop at s in (
+      stop-unfold (λ c. done) at (drop at s) (omega arith) ∙ rw e (ap (stopFrom (λ c. done) 0 (at + n)) (drop-drop n at s)),
+      omega arith,
+      omega arith,
+    )
 
 -- What a byte that is not quiet begins is written as it says.
 pub special-moves : (mode : Mode) (s : List ℕ) (at next : ℕ) (x : Special) → Sound s at → at < length s → Loud mode s at

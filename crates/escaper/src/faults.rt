@@ -4,7 +4,6 @@ ghost use Prim.Native.Nat.{_≤_};
 ghost use lib.ListN.{length};
 ghost use Rattle.escaper.specs.Escape.{escapeStop};
 use standard::characters::CharRead;
-use standard::runs::ascii_end;
 
 // The answer, 0 or 1, and how many bytes stand before that place.
 pub(crate) struct Stopped {
@@ -20,7 +19,7 @@ pub(crate) fn find_fault(s: &[u8]) -> Stopped
     let mut at: usize = 0;
     while at < s.len() {
         if s[at] < 0x80 {
-            at = ascii_end(s, at);
+            at = runs::ascii_end(s, at);
         } else {
             let CharRead::Char { value: _, len } = standard::characters::read_char(&s[at..]) else {
                 return Stopped {

@@ -3,7 +3,6 @@ ghost use Rattle.escaper.specs.Escape.{Escapes};
 
 mod faults;
 mod results;
-mod runs;
 mod specials;
 
 // What is escaped: text, or the value of an attribute in quotation marks.

@@ -24,6 +24,7 @@ pub(crate) struct Head {
     pub size: usize,
 }
 
+// The head of a record.
 pub(crate) fn read_head(s: &[u8]) -> Head
     requires { ⌜ 17 ≤ length (now s) ⌝ }
 {

@@ -20,5 +20,5 @@ pub mod Bounds
 pub mod Ascii
 pub mod References
 pub mod Looking
-pub mod RunLaws
+pub mod Faults
 pub mod FrontPiece

@@ -2,15 +2,19 @@
 use Prim.Native.Nat.{ℕ, _+_, _≤_, _<_}
 use mathlib.Core.Path.{_≡_, refl, _∙_, ap}
 use mathlib.Core.List.{List}
+use mathlib.Core.Bool.{Bool, true}
 use native.Mathlib.Omega.{arith}
 use lib.ListN.{length, drop, length-drop, drop-of-length-le}
 use lib.Seq.{drop-drop}
 use borrow.Author.Tests.{eq-eqb, ne-eqb}
+use Rattle.lists.specs.Notation.{front}
+use Rattle.lists.proofs.Fronts.{front-length}
 use Rattle.standard.specs.declared.characters.CharRead.{CharRead}
 use Rattle.standard.specs.declared.characters.CharRead.the-variants.{Char, Incomplete, Illformed, End}
 use Rattle.standard.specs.Utf8.{readChar}
 use Rattle.standard.specs.Answers.{done}
 use Rattle.standard.specs.Reading.{answerTo, sizeOf, stops, stopFrom}
+use Rattle.standard.proofs.Ascii.{stop-run}
 use Rattle.standard.proofs.Stops.{stop-read}
 use Rattle.standard.proofs.Utf8.{read-length, incomplete-length, illformed-length, end-length}
 
@@ -61,3 +65,14 @@ module _ {calls : ℕ → ℕ} {s : List ℕ} {at : ℕ} (l : Looking calls s at
   pub looking-end : length s ≤ at → stopFrom calls 0 0 s ≡ stops done at
   unfolding stopFrom
   looking-end e = l .same ∙ rw (drop-of-length-le s e)
+
+  -- A run of ASCII bytes of a test p, of which none calls for an answer, is passed.
+  pub looking-run : (p : ℕ → Bool) → ((b : ℕ) → p b ≡ true → (b < 0x80) × (calls b ≡ done)) → {from : ℕ}
+      → from ≡ at + length (front p (drop at s)) → Looking calls s from
+  looking-run p quiet is = rw is
+      (record {
+        there = omega (arith, l .there, front-length p (drop at s), length-drop at s);
+        same =
+            l .same ∙ stop-run calls p quiet (drop at s) at
+            ∙ ap (stopFrom calls 0 (at + length (front p (drop at s)))) (drop-drop (length (front p (drop at s))) at s);
+      })

@@ -6,7 +6,7 @@ use mathlib.Core.Logic.{_⊎_, inl, inr}
 use native.Mathlib.Omega.{arith}
 use lib.Dec.{eqb}
 use lib.ListN.{length, drop}
-use borrow.Author.Tests.{eqb-false}
+use borrow.Author.Tests.{eq-eqb, eqb-false, ne-eqb}
 use Rattle.lists.specs.Notation.{if_then_else_}
 use Rattle.lists.proofs.Choice.{if-both}
 use Rattle.standard.specs.declared.Context.{Context}
@@ -14,7 +14,7 @@ use Rattle.standard.specs.declared.characters.CharRead.{CharRead}
 use Rattle.standard.specs.declared.characters.CharRead.the-variants.{Char, Incomplete, Illformed, End}
 use Rattle.standard.specs.Utf8.{readChar}
 use Rattle.standard.specs.Answers.{done, ill-formed, nul, context-end}
-use Rattle.standard.specs.Contexts.{ends, refused}
+use Rattle.standard.specs.Contexts.{endByte, ends, refused}
 use Rattle.standard.specs.Reading.{callsFor, answerTo, sizeOf, Stop, stops, stopFrom, stopOf}
 use Rattle.standard.proofs.Utf8.{read-length, end-length}
 use Rattle.standard.proofs.Skips.{drop-pred, stop-skip}
@@ -86,6 +86,14 @@ stop-cases P calls none each zero place (b ∷ s) =
     let later = stop-cases P calls none each (sizeOf (readChar (b ∷ s)) - 1) (suc place) s in
     if-both (λ (r : Stop). P (r .answer)) (eqb (answerTo calls (readChar (b ∷ s))) done) _ _ (λ t. later) (λ f. each (readChar (b ∷ s)))
 stop-cases P calls none each (suc k) place (b ∷ s) = stop-cases P calls none each k (suc place) s
+
+-- What a character other than NUL calls for: the context's end, or nothing.
+module _ (context : Context) (c : ℕ) (some : c ≡ 0 → ⊥) where
+  pub calls-end : c ≡ endByte context → callsFor context c ≡ context-end
+  calls-end e = rw (ne-eqb c 0 some, eq-eqb c (endByte context) e)
+
+  pub calls-none : (c ≡ endByte context → ⊥) → callsFor context c ≡ done
+  calls-none e = rw (ne-eqb c 0 some, ne-eqb c (endByte context) e)
 
 -- A source stops with one of four answers.
 abbrev pub OneOf : ℕ → Type 0

@@ -7,9 +7,12 @@ use Rattle.standard.specs.declared.Context.{Context}
 use Rattle.standard.specs.declared.Context.the-variants.{Text, Attribute}
 
 -- The character before which a source ends.
+abbrev pub endByte : Context → ℕ
+endByte Text = code "<"
+endByte Attribute = code "\""
+
 abbrev pub ends : Context → ℕ → Bool
-ends Text c = eqb c (code "<")
-ends Attribute c = eqb c (code "\"")
+ends context c = eqb c (endByte context)
 
 -- A reference is read as part of an attribute (WHATWG HTML, 13.2.5, 'consumed as part of an attribute').
 abbrev pub inAttribute : Context → Bool

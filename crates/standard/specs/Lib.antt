@@ -8,4 +8,3 @@ pub mod NameList
 pub mod Answers
 pub mod Pieces
 pub mod Reading
-pub mod Runs

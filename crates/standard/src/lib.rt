@@ -1,7 +1,6 @@
-// What the crates that read share, and nothing more: the contexts, the reader of one character, runs of bytes, and the names.
+// What the decoder and the checker share, and nothing more: the contexts, the reader of one character, and the names.
 pub mod characters;
 pub mod names;
-pub mod runs;
 pub mod table;
 
 // Where a source stands in a page: its end and the rule for names without `;` go by this.

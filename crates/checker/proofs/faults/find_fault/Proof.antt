@@ -6,8 +6,8 @@ use borrow.Author.Needs.{needs}
 use Rattle.standard.specs.Answers.{done}
 use Rattle.standard.specs.Reading.{callsFor}
 use Rattle.standard.proofs.Looking.{Looking, looking-start, looking-end}
-use Rattle.standard.proofs.RunLaws.{looking-run}
-use Rattle.checker.proofs.FaultLaws.{stop-is, fault-other, fault-called, fault-none, fault-size}
+use Rattle.standard.proofs.Faults.{stop-is, fault-other, fault-called, fault-none, fault-size}
+use Rattle.checker.proofs.FaultLaws.{looking-run}
 use Rattle.checker.proofs.faults.find_fault.Statement.{statement}
 use Rattle.checker.proofs.faults.find_fault.Tie as tie
 
@@ -20,13 +20,15 @@ abbrev μ-loop : tie.MeasureT-loop
 loop-holds : tie.Need-loop-holds Inv-loop μ-loop
 loop-holds c = looking-start
 
-ordinary-end-requires : tie.Need-ordinary-end-requires Inv-loop μ-loop
-ordinary-end-requires c κs = search needs
+quiet-run-requires : tie.Need-quiet-run-requires Inv-loop μ-loop
+quiet-run-requires c κs = c .before .loop .inv .there
 
 -- A run is passed.
-passed : (c : tie.After-ordinary-end Inv-loop μ-loop) →
-    let a = c .before .before .before .before .args in Looking (callsFor (a .context)) (a .s .now) (c .ordinary-end .result)
-passed c = looking-run (c .before .before .before .before .args .context) (c .before .before .loop .inv) (c .ordinary-end .ensures)
+passed : (c : tie.After-quiet-run Inv-loop μ-loop) →
+    let a = c .before .before .before .before .args in Looking (callsFor (a .context)) (a .s .now) (c .quiet-run .result)
+passed c =
+    let e = c .quiet-run .ensures in
+    looking-run (c .before .before .before .before .args .context) (c .before .before .loop .inv) _ (e .0) (e .1) (e .2)
 
 returns : tie.Need-returns Inv-loop μ-loop
 returns c = stop-is done _ (looking-end (passed (c .before)) (omega (arith, c .if1 .taken)))
@@ -50,8 +52,7 @@ returns-2 : tie.Need-returns-2 Inv-loop μ-loop
 returns-2 c =
     let c3 = c .before .before .before in
     let c4 = c3 .before in
-    let c8 = c4 .before .before .before .before in
-    fault-other (c8 .args .context) (passed c4) (omega (arith, passed c4 .there, c3 .if1 .left)) (c .before .read-char .ensures) (c .match .keys2)
+    fault-other (passed c4) (omega (arith, passed c4 .there, c3 .if1 .left)) (c .before .read-char .ensures) (c .match .keys2)
 
 called-for-requires : tie.Need-called-for-requires Inv-loop μ-loop
 called-for-requires c κs = search needs
@@ -62,8 +63,7 @@ returns-3 c =
     let c5 = c3 .before .before in
     let c7 = c5 .before .before in
     let c8 = c7 .before in
-    let c12 = c8 .before .before .before .before in
-    fault-called (c12 .args .context) (passed c8) (omega (arith, passed c8 .there, c7 .if1 .left)) (c5 .read-char .ensures) (c3 .value .given .1)
+    fault-called (passed c8) (omega (arith, passed c8 .there, c7 .if1 .left)) (c5 .read-char .ensures) (c3 .value .given .1)
     (c .before .called-for .ensures) (c .if2 .taken)
 
 loop-again : tie.Need-loop-again Inv-loop μ-loop
@@ -72,8 +72,7 @@ loop-again c =
     let c5 = c3 .before .before in
     let c7 = c5 .before .before in
     let c8 = c7 .before in
-    let c12 = c8 .before .before .before .before in
-    fault-none (c12 .args .context) (passed c8) (omega (arith, passed c8 .there, c7 .if1 .left)) (c5 .read-char .ensures) (c3 .value .given .1)
+    fault-none (passed c8) (omega (arith, passed c8 .there, c7 .if1 .left)) (c5 .read-char .ensures) (c3 .value .given .1)
     (c .before .called-for .ensures) (c .if2 .left)
 
 add-at : tie.Need-add-at Inv-loop μ-loop
@@ -85,12 +84,11 @@ loop-less c =
     let c5 = c3 .before .before in
     let c7 = c5 .before .before in
     let c8 = c7 .before in
-    let c12 = c8 .before .before .before .before in
     omega (
       arith,
       loop-again c .there,
-      c8 .ordinary-end .ensures,
-      fault-size (c12 .args .context) (passed c8) (omega (arith, passed c8 .there, c7 .if1 .left)) (c5 .read-char .ensures) (c3 .value .given .1)
+      c8 .quiet-run .ensures .0,
+      fault-size (passed c8) (omega (arith, passed c8 .there, c7 .if1 .left)) (c5 .read-char .ensures) (c3 .value .given .1)
           (c .before .called-for .ensures),
     )
 
@@ -99,5 +97,5 @@ returns-4 c = stop-is done _ (looking-end (c .before .loop .inv) (omega arith))
 
 pub find-fault-spec : {M : Type 1} → statement M
 find-fault-spec = tie.close
-    (tie.spec Inv-loop μ-loop loop-holds ordinary-end-requires returns sub-read-char part-read-char-start part-read-char-end read-char-requires
+    (tie.spec Inv-loop μ-loop loop-holds quiet-run-requires returns sub-read-char part-read-char-start part-read-char-end read-char-requires
     enum-known-value returns-2 called-for-requires returns-3 add-at loop-less loop-again returns-4)

@@ -1,6 +1,6 @@
 use mathlib.Core.Path.{sym, _∙_}
 use borrow.Author.Tests.{eq-eqb}
-use Rattle.standard.proofs.RunLaws.{calls-end, calls-none}
+use Rattle.standard.proofs.Stops.{calls-end, calls-none}
 use borrow.Author.Needs.{needs}
 use Rattle.decoder.proofs.stops.calls_for.Statement.{statement}
 use Rattle.decoder.proofs.stops.calls_for.Tie as tie

@@ -5,8 +5,7 @@ use native.Mathlib.Omega.{arith}
 use lib.ListN.{length}
 use Rattle.standard.specs.Reading.{callsFor, Stop}
 use Rattle.standard.proofs.Looking.{Looking, looking-start, looking-end}
-use Rattle.standard.proofs.RunLaws.{looking-run}
-use Rattle.decoder.proofs.Stopping.{turn-stops, turn-on, turn-passes}
+use Rattle.decoder.proofs.Stopping.{run-passed, turn-stops, turn-on, turn-passes}
 use borrow.Author.Needs.{needs}
 use Rattle.decoder.proofs.stops.find_stop.Statement.{statement}
 use Rattle.decoder.proofs.stops.find_stop.Tie as tie
@@ -20,18 +19,18 @@ abbrev μ-loop : tie.MeasureT-loop
 loop-holds : tie.Need-loop-holds Inv-loop μ-loop
 loop-holds c = looking-start
 
-ordinary-end-requires : tie.Need-ordinary-end-requires Inv-loop μ-loop
-ordinary-end-requires c κs = search needs
+ordinary-run-requires : tie.Need-ordinary-run-requires Inv-loop μ-loop
+ordinary-run-requires c κs = search needs
 
 sub-read-char : tie.Need-sub-read-char Inv-loop μ-loop
 sub-read-char c =
     let c4 = c .before .before .before .before in
-    omega (arith, looking-run (c4 .args .context) (c .before .before .loop .inv) (c .ordinary-end .ensures) .there)
+    omega (arith, run-passed (c4 .args .context) (c .before .before .loop .inv) (c .ordinary-run .ensures) .there)
 
 part-read-char-start : tie.Need-part-read-char-start Inv-loop μ-loop
 part-read-char-start c =
     let c4 = c .before .before .before .before in
-    omega (arith, looking-run (c4 .args .context) (c .before .before .loop .inv) (c .ordinary-end .ensures) .there)
+    omega (arith, run-passed (c4 .args .context) (c .before .before .loop .inv) (c .ordinary-run .ensures) .there)
 
 part-read-char-end : tie.Need-part-read-char-end Inv-loop μ-loop
 part-read-char-end c = search needs
@@ -46,7 +45,7 @@ returns : tie.Need-returns Inv-loop μ-loop
 returns c =
     let c4 = c .before .before .before .before in
     let c8 = c4 .before .before .before .before in
-    turn-stops (c8 .args .context) (c4 .before .before .loop .inv) (c4 .ordinary-end .ensures) (c .before .before .read-char .ensures)
+    turn-stops (c8 .args .context) (c4 .before .before .loop .inv) (c4 .ordinary-run .ensures) (c .before .before .read-char .ensures)
     (c .before .answer-to .ensures) (c .if1 .taken)
 
 size-of-requires : tie.Need-size-of-requires Inv-loop μ-loop
@@ -57,7 +56,7 @@ loop-again c =
     let c3 = c .before .before .before in
     let c5 = c3 .before .before in
     let c9 = c5 .before .before .before .before in
-    turn-on (c9 .args .context) (c5 .before .before .loop .inv) (c5 .ordinary-end .ensures) (c3 .read-char .ensures)
+    turn-on (c9 .args .context) (c5 .before .before .loop .inv) (c5 .ordinary-run .ensures) (c3 .read-char .ensures)
     (c .before .before .answer-to .ensures) (c .before .if1 .left) (c .size-of .ensures)
 
 add-at : tie.Need-add-at Inv-loop μ-loop
@@ -68,7 +67,7 @@ loop-less c =
     let c3 = c .before .before .before in
     let c5 = c3 .before .before in
     let c9 = c5 .before .before .before .before in
-    let turn = turn-passes (c9 .args .context) (c5 .before .before .loop .inv) (c5 .ordinary-end .ensures) (c3 .read-char .ensures)
+    let turn = turn-passes (c9 .args .context) (c5 .before .before .loop .inv) (c5 .ordinary-run .ensures) (c3 .read-char .ensures)
     (c .before .before .answer-to .ensures) (c .before .if1 .left) (c .size-of .ensures) in
     omega (arith, turn (c5 .before .loop-test .taken), loop-again c .there)
 
@@ -84,7 +83,7 @@ find-stop-spec =
     Inv-loop
     μ-loop
     loop-holds
-    ordinary-end-requires
+    ordinary-run-requires
     sub-read-char
     part-read-char-start
     part-read-char-end

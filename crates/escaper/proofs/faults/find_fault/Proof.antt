@@ -1,49 +1,30 @@
 -- The invariant: the input stops where the bytes from `at` on do.
-use Prim.Native.Nat.{_≤_, _<_, _+_, _-_}
-use mathlib.Core.Path.{_≡_, refl, sym, _∙_, ap}
-use mathlib.Core.Logic.{⊎-elim}
+use Prim.Native.Nat.{ℕ, _-_}
+use mathlib.Core.Path.{refl, ap}
 use native.Mathlib.Omega.{arith}
-use borrow.Author.Needs.{needs}
-use borrow.Author.Tests.{lt-ltb}
 use lib.ListN.{length}
-use Rattle.standard.specs.Reading.{Stop}
-use Rattle.escaper.proofs.Stopping.{stopAt, rest-from, stop-ascii, ascii-some, stop-character, stop-fault, stop-end}
+use borrow.Author.Needs.{needs}
+use borrow.Author.Tests.{lt-ltb, ltb-true}
+use Rattle.lists.proofs.Fronts.{front-goes-on}
+use Rattle.standard.specs.Answers.{done}
+use Rattle.standard.proofs.Looking.{Looking, looking-start, looking-run, looking-end}
+use Rattle.standard.proofs.Faults.{stop-is, fault-other, fault-none, fault-size}
+use Rattle.runs.specs.Kinds.{ascii}
 use Rattle.escaper.proofs.faults.find_fault.Statement.{statement}
 use Rattle.escaper.proofs.faults.find_fault.Tie as tie
 
+-- A character calls for nothing.
+abbrev calls : ℕ → ℕ
+calls c = done
+
 abbrev Inv-loop : tie.InvT-loop
-Inv-loop s at₀ at = (stopAt s 0 ≡ stopAt s at) × (at ≤ length s)
+Inv-loop s at₀ at = Looking calls s at
 
 abbrev μ-loop : tie.MeasureT-loop
 μ-loop s at₀ at = length s - at
 
 loop-holds : tie.Need-loop-holds Inv-loop μ-loop
-loop-holds c = (refl, omega arith)
-
--- A run is passed.
-run-passed : (c : tie.After-ascii-end Inv-loop μ-loop) →
-    let s = c .before .before .before .before .before .before .args .s .now in
-    let end = c .ascii-end .result in
-    (stopAt s 0 ≡ stopAt s end) × (c .before .before .before .before .loop .at < end) × (end ≤ length s)
-run-passed c =
-    let s = c .before .before .before .before .before .before .args .s .now in
-    let l = c .before .before .before .before .loop in
-    let w = ascii-some s (l .at) (omega arith) (lt-ltb _ 0x80 (c .before .if1 .taken)) in
-    let e = c .ascii-end .ensures in
-    (l .inv .0 ∙ rw e (stop-ascii s (l .at)), omega arith, omega arith)
-
--- A character is passed.
-character-passed : (c : tie.After-known-told Inv-loop μ-loop) →
-    let s = c .before .before .before .before .before .before .before .before .before .before .args .s .now in
-    let at = c .before .before .before .before .before .before .before .before .loop .at in
-    let len = c .before .len .given .0 .1 .0 in
-    (stopAt s 0 ≡ stopAt s (at + len)) × (1 ≤ len) × (at + len ≤ length s)
-character-passed c =
-    let s = c .before .before .before .before .before .before .before .before .before .before .args .s .now in
-    let l = c .before .before .before .before .before .before .before .before .loop in
-    let e = rw (rest-from s (l .at)) at (c .before .before .before .read-char .ensures) in
-    let w = stop-character s (l .at) _ _ (omega arith) (sym e ∙ c .before .len .given .1) in
-    (l .inv .0 ∙ w .0, w .1, w .2)
+loop-holds c = looking-start
 
 shared-slice-read-if1 : tie.Need-shared-slice-read-if1 Inv-loop μ-loop
 shared-slice-read-if1 c = omega arith
@@ -51,11 +32,20 @@ shared-slice-read-if1 c = omega arith
 ascii-end-requires : tie.Need-ascii-end-requires Inv-loop μ-loop
 ascii-end-requires c κs = search needs
 
-loop-less : tie.Need-loop-less Inv-loop μ-loop
-loop-less c = omega (arith, run-passed c)
-
 loop-again : tie.Need-loop-again Inv-loop μ-loop
-loop-again c = let w = run-passed c in (w .0, w .2)
+loop-again c =
+    looking-run (c .before .before .before .before .loop .inv) ascii (λ b t. (ltb-true b 0x80 t, refl)) (c .ascii-end .ensures)
+
+loop-less : tie.Need-loop-less Inv-loop μ-loop
+loop-less c =
+    let s = c .before .before .before .before .before .before .args .s .now in
+    let at = c .before .before .before .before .loop .at in
+    omega (
+      arith,
+      loop-again c .there,
+      c .ascii-end .ensures,
+      ap length (front-goes-on ascii s at (omega arith) (lt-ltb _ 0x80 (c .before .if1 .taken))),
+    )
 
 sub-read-char : tie.Need-sub-read-char Inv-loop μ-loop
 sub-read-char c = search needs
@@ -74,27 +64,30 @@ enum-known-len c = search needs
 
 returns : tie.Need-returns Inv-loop μ-loop
 returns c =
-    let a = c .before .before .before .before .before .before .before .before .args in
-    let l = c .before .before .before .before .before .before .loop in
-    let e = rw (rest-from (a .s .now) (l .at)) at (c .before .read-char .ensures) in
-    let w = l .inv .0 ∙ stop-fault (a .s .now) (l .at) (omega arith)
-    (λ v n f. ⊎-elim (λ z. omega arith) (⊎-elim (λ z. omega arith) (λ z. omega arith)) (rw (e ∙ f) at (c .match .keys2))) in
-    (sym (ap (λ (r : Stop). r .answer) w), sym (ap (λ (r : Stop). r .place) w), l .inv .1)
-
-add-at : tie.Need-add-at Inv-loop μ-loop
-add-at c = omega (arith, character-passed c)
-
-loop-less-2 : tie.Need-loop-less-2 Inv-loop μ-loop
-loop-less-2 c = omega (arith, character-passed c)
+    let l = c .before .before .before .before .before .before .loop .inv in
+    let w = fault-other l (omega arith) (c .before .read-char .ensures) (c .match .keys2) in (w .0, w .1, l .there)
 
 loop-again-2 : tie.Need-loop-again-2 Inv-loop μ-loop
-loop-again-2 c = let w = character-passed c in (w .0, w .2)
+loop-again-2 c =
+    let l = c .before .before .before .before .before .before .before .before .loop .inv in
+    fault-none l (omega arith) (c .before .before .before .read-char .ensures) (c .before .len .given .1) refl refl
+
+add-at : tie.Need-add-at Inv-loop μ-loop
+add-at c = omega (arith, loop-again-2 c .there)
+
+loop-less-2 : tie.Need-loop-less-2 Inv-loop μ-loop
+loop-less-2 c =
+    let l = c .before .before .before .before .before .before .before .before .loop .inv in
+    omega (
+      arith,
+      loop-again-2 c .there,
+      fault-size l (omega arith) (c .before .before .before .read-char .ensures) (c .before .len .given .1) refl,
+    )
 
 returns-2 : tie.Need-returns-2 Inv-loop μ-loop
 returns-2 c =
-    let l = c .before .loop in
-    let w = l .inv .0 ∙ stop-end (c .before .before .before .args .s .now) (l .at) (omega arith) in
-    (sym (ap (λ (r : Stop). r .answer) w), sym (ap (λ (r : Stop). r .place) w), l .inv .1)
+    let l = c .before .loop .inv in
+    let w = stop-is done _ (looking-end l (omega arith)) in (w .0, w .1, l .there)
 
 pub find-fault-spec : {M : Type 1} → statement M
 find-fault-spec =
