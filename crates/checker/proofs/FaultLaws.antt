@@ -19,7 +19,7 @@ use Rattle.standard.specs.Reading.{callsFor, answerTo}
 use Rattle.standard.proofs.Ascii.{read-ascii}
 use Rattle.standard.proofs.Stops.{calls-none}
 use Rattle.standard.proofs.Looking.{Looking, looking-on}
-use Rattle.checker.specs.Runs.{quiet, Quiet}
+use Rattle.checker.specs.Spans.{quiet, Quiet}
 
 -- A quiet byte is ASCII and calls for nothing.
 quiet-calls : (context : Context) (b : ℕ) → quiet (endByte context) b ≡ true → (b < 0x80) × (callsFor context b ≡ done)

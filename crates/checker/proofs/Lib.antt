@@ -6,4 +6,4 @@ pub mod Walking
 pub mod RowLaws
 pub mod RowByRow
 pub mod CheckLaws
-pub mod RunLaws
+pub mod SpanLaws

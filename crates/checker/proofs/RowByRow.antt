@@ -18,7 +18,7 @@ use Rattle.standard.proofs.Bounds.{pieces-unfold}
 use Rattle.checker.specs.declared.rows.Judged.{Judged}
 use Rattle.checker.specs.declared.verdicts.Verdict as code
 use Rattle.checker.specs.Transcript.{row, rowsOf, Left, right, remains, spent, Verdict, verdict, judge, verdictOn}
-use Rattle.checker.specs.Runs.{Alike, PlainRow, unitRow, UnitRows, PlainRows}
+use Rattle.checker.specs.Spans.{Alike, PlainRow, unitRow, UnitRows, PlainRows}
 use Rattle.checker.specs.Meeting.{leftAt, Judges, Verdicts, LastVerdict}
 use Rattle.checker.proofs.RowLaws.{judged-plain}
 

@@ -20,7 +20,7 @@ use Rattle.checker.specs.declared.meeting.Met.{Met}
 use Rattle.checker.specs.declared.rows.Joint.{Joint}
 use Rattle.checker.specs.declared.rows.Judged.{Judged}
 use Rattle.checker.specs.Transcript.{row, left, total, reached, right, wrong}
-use Rattle.checker.specs.Runs.{PlainRow}
+use Rattle.checker.specs.Spans.{PlainRow}
 use Rattle.checker.specs.Meeting.{so-far, Joins, ByteRow, leftAt, Judges}
 use Rattle.checker.proofs.Walking.{Walking, walk-byte-row, walk-run, walked}
 

@@ -25,7 +25,7 @@ use Rattle.standard.proofs.Joining.{numbers-append}
 use Rattle.checker.specs.declared.meeting.Met.{Met}
 use Rattle.checker.specs.declared.rows.Joint.{Joint}
 use Rattle.checker.specs.Transcript.{total, reached}
-use Rattle.checker.specs.Runs.{alike, Alike, AlikeIf}
+use Rattle.checker.specs.Spans.{alike, Alike, AlikeIf}
 use Rattle.checker.specs.Meeting.{Meets, so-far, Joins, ByteRow}
 use Rattle.checker.proofs.Meetings.{meets-none, meets-hit, meets-join, stands-number}
 

@@ -1,4 +1,4 @@
 pub mod Pieces
 pub mod Transcript
 pub mod Meeting
-pub mod Runs
+pub mod Spans

@@ -18,7 +18,7 @@ use Rattle.checker.specs.declared.meeting.Met.{Met}
 use Rattle.checker.specs.declared.rows.Joint.{Joint}
 use Rattle.checker.specs.declared.rows.Judged.{Judged}
 use Rattle.checker.specs.declared.verdicts.Verdict as code
-use Rattle.checker.specs.Runs.{lone}
+use Rattle.checker.specs.Spans.{lone}
 use Rattle.checker.specs.Transcript.{Row, Left, left, total, reached, wrong, right, remains, after, Verdict}
 
 -- The numbers that are lent: words, or bytes where there are no words.

@@ -3,11 +3,11 @@ ghost use mathlib.Core.Path.{_≡_};
 ghost use mathlib.Core.Bool.{true};
 ghost use Prim.Native.Nat.{_≤_, _+_};
 ghost use lib.ListN.{length};
-ghost use Rattle.checker.specs.Runs.{unitRow, UnitRows, PlainRows};
+ghost use Rattle.checker.specs.Spans.{unitRow, UnitRows, PlainRows};
 ghost use Rattle.checker.specs.Meeting.{lent};
 use crate::meeting::count;
 use crate::meeting::number_at;
-use crate::runs::alike_block;
+use crate::spans::alike_block;
 
 // A row of one source byte, one text byte and no errors.
 fn unit(n: u32, m: u32, k: u32) -> bool

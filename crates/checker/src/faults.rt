@@ -2,7 +2,7 @@
 ghost use mathlib.Core.Path.{_≡_};
 ghost use Rattle.standard.specs.Contexts.{ends};
 ghost use Rattle.standard.specs.Reading.{callsFor, stopOf};
-use crate::runs::quiet_run;
+use crate::spans::quiet_run;
 use standard::Context;
 use standard::characters::CharRead;
 use standard::characters::read_char;

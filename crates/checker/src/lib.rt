@@ -7,7 +7,7 @@ mod meeting;
 mod pieces;
 mod references;
 mod rows;
-mod runs;
+mod spans;
 mod verdicts;
 
 pub use checking::Checked;

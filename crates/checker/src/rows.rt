@@ -6,7 +6,7 @@ ghost use lib.ListN.{length, drop};
 ghost use Rattle.standard.specs.Names.{records};
 ghost use Rattle.standard.specs.Reading.{pieces};
 ghost use Rattle.checker.specs.Transcript.{row};
-ghost use Rattle.checker.specs.Runs as spec;
+ghost use Rattle.checker.specs.Spans as spec;
 ghost use Rattle.checker.specs.Meeting.{lent, so-far, Joins, ByteRow, Judges};
 use crate::classes::character_code;
 use crate::classes::peek;
@@ -15,8 +15,8 @@ use crate::meeting::Met;
 use crate::meeting::meet_codes;
 use crate::meeting::meet_text;
 use crate::pieces::piece_at;
-use crate::runs::alike;
-use crate::runs::alike_run;
+use crate::spans::alike;
+use crate::spans::alike_run;
 use standard::Context;
 
 // The pieces of a row: the place after them, and their text and errors as they were met.

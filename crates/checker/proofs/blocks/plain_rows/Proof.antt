@@ -4,9 +4,9 @@ use native.Mathlib.Omega.{arith}
 use lib.ListN.{length}
 use borrow.Author.Needs.{needs}
 use borrow.Author.Tests.{not-false}
-use Rattle.checker.specs.Runs.{PlainRows}
+use Rattle.checker.specs.Spans.{PlainRows}
 use Rattle.checker.specs.Meeting.{lent}
-use Rattle.checker.proofs.RunLaws.{plain-none, units-join, alike-join}
+use Rattle.checker.proofs.SpanLaws.{plain-none, units-join, alike-join}
 use Rattle.checker.proofs.blocks.plain_rows.Statement.{statement}
 use Rattle.checker.proofs.blocks.plain_rows.Tie as tie
 

@@ -4,10 +4,10 @@ use mathlib.Core.Path.{_≡_, _∙_}
 use mathlib.Core.Bool.{true}
 use native.Mathlib.Omega.{arith}
 use borrow.Author.Needs.{needs}
-use Rattle.checker.specs.Runs.{UnitRows}
+use Rattle.checker.specs.Spans.{UnitRows}
 use Rattle.checker.specs.Meeting.{lent}
 use Rattle.checker.proofs.Meetings.{lent-length}
-use Rattle.checker.proofs.RunLaws.{unitAt, each-none, each-tested}
+use Rattle.checker.proofs.SpanLaws.{unitAt, each-none, each-tested}
 use Rattle.checker.proofs.blocks.unit_rows.Statement.{statement}
 use Rattle.checker.proofs.blocks.unit_rows.Tie as tie
 

@@ -4,7 +4,7 @@ use lib.Dec.{eqb}
 use borrow.Author.Needs.{needs}
 use borrow.Author.Tests.{eqb-true, not-false}
 use Rattle.lists.proofs.Choice.{no-way}
-use Rattle.checker.proofs.RunLaws.{or-none}
+use Rattle.checker.proofs.SpanLaws.{or-none}
 use Rattle.checker.proofs.rows.plain_row.Statement.{statement}
 use Rattle.checker.proofs.rows.plain_row.Tie as tie
 

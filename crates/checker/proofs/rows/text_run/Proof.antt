@@ -1,7 +1,7 @@
 use native.Mathlib.Omega.{arith}
 use borrow.Author.Needs.{needs}
 use borrow.Author.Tests.{not-false}
-use Rattle.checker.proofs.RunLaws.{alike-if-none}
+use Rattle.checker.proofs.SpanLaws.{alike-if-none}
 use Rattle.checker.proofs.rows.text_run.Statement.{statement}
 use Rattle.checker.proofs.rows.text_run.Tie as tie
 

@@ -7,7 +7,7 @@ use mathlib.Core.Logic.{⊎-elim}
 use native.Mathlib.Omega.{arith}
 use lib.ListN.{length, getD}
 use Rattle.lists.proofs.Choice.{no-way, below?, and-true}
-use Rattle.checker.specs.Runs.{quiet, Quiet, alike, Alike, AlikeIf, unitRow, UnitRows, PlainRows}
+use Rattle.checker.specs.Spans.{quiet, Quiet, alike, Alike, AlikeIf, unitRow, UnitRows, PlainRows}
 
 -- Where neither of two tests holds, each fails.
 pub or-none : (t u : Bool) → t || u ≡ false → (t ≡ false) × (u ≡ false)

@@ -4,10 +4,10 @@ use mathlib.Core.Path.{sym, _∙_}
 use native.Mathlib.Omega.{arith}
 use borrow.Author.Needs.{needs}
 use borrow.Author.Tests.{not-false}
-use Rattle.checker.specs.Runs.{Alike}
-use Rattle.checker.proofs.RunLaws.{alikeAt, each-none, each-more}
-use Rattle.checker.proofs.runs.alike_bytes.Statement.{statement}
-use Rattle.checker.proofs.runs.alike_bytes.Tie as tie
+use Rattle.checker.specs.Spans.{Alike}
+use Rattle.checker.proofs.SpanLaws.{alikeAt, each-none, each-more}
+use Rattle.checker.proofs.spans.alike_bytes.Statement.{statement}
+use Rattle.checker.proofs.spans.alike_bytes.Tie as tie
 
 abbrev Inv-loop : tie.InvT-loop
 Inv-loop s at text t n i₀ i = Alike s at text t i × (i ≤ n)

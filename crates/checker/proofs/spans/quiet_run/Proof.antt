@@ -5,10 +5,10 @@ use native.Mathlib.Omega.{arith}
 use lib.ListN.{length}
 use borrow.Author.Needs.{needs}
 use borrow.Author.Tests.{not-false}
-use Rattle.checker.specs.Runs.{Quiet}
-use Rattle.checker.proofs.RunLaws.{quietAt, each-none, quiet-join, quiet-on}
-use Rattle.checker.proofs.runs.quiet_run.Statement.{statement}
-use Rattle.checker.proofs.runs.quiet_run.Tie as tie
+use Rattle.checker.specs.Spans.{Quiet}
+use Rattle.checker.proofs.SpanLaws.{quietAt, each-none, quiet-join, quiet-on}
+use Rattle.checker.proofs.spans.quiet_run.Statement.{statement}
+use Rattle.checker.proofs.spans.quiet_run.Tie as tie
 
 abbrev Inv-loop : tie.InvT-loop
 Inv-loop s from end at₀ at = (from ≤ at) × (at ≤ length s) × Quiet end s from (at - from)

@@ -1,11 +1,12 @@
-// Runs, in blocks: bytes that stop no reading, and bytes that a source and its text have alike. A run may end early: it spares work and settles
-// nothing. The loops over a block have no early end, so they are done many bytes at a time. The decoder has runs of its own, of the crate `runs`.
+// Spans, in blocks: bytes that stop no reading, and bytes that a source and its text have alike. A span may end early: it spares work and settles
+// nothing. The loops over a block have no early end, so they are done many bytes at a time. The checker doesn't see the crate `runs`, which the decoder
+// has for this.
 ghost use mathlib.Core.Path.{_≡_};
 ghost use mathlib.Core.Bool.{true};
 ghost use Prim.Native.Nat.{_≤_, _+_, _-_};
 ghost use lib.ListN.{length};
 ghost use Rattle.standard.specs.Contexts.{endByte};
-ghost use Rattle.checker.specs.Runs as spec;
+ghost use Rattle.checker.specs.Spans as spec;
 use standard::Context;
 
 // The byte before which a source ends.

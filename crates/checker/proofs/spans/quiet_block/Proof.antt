@@ -4,10 +4,10 @@ use mathlib.Core.Path.{_≡_}
 use mathlib.Core.Bool.{true}
 use native.Mathlib.Omega.{arith}
 use borrow.Author.Needs.{needs}
-use Rattle.checker.specs.Runs.{Quiet}
-use Rattle.checker.proofs.RunLaws.{quietAt, each-none, each-tested}
-use Rattle.checker.proofs.runs.quiet_block.Statement.{statement}
-use Rattle.checker.proofs.runs.quiet_block.Tie as tie
+use Rattle.checker.specs.Spans.{Quiet}
+use Rattle.checker.proofs.SpanLaws.{quietAt, each-none, each-tested}
+use Rattle.checker.proofs.spans.quiet_block.Statement.{statement}
+use Rattle.checker.proofs.spans.quiet_block.Tie as tie
 
 abbrev Inv-loop : tie.InvT-loop
 Inv-loop s at end all₀ i₀ all i = (all ≡ true → Quiet end s at i) × (i ≤ 64)

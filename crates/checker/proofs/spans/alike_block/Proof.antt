@@ -4,10 +4,10 @@ use mathlib.Core.Path.{_≡_}
 use mathlib.Core.Bool.{true}
 use native.Mathlib.Omega.{arith}
 use borrow.Author.Needs.{needs}
-use Rattle.checker.specs.Runs.{Alike}
-use Rattle.checker.proofs.RunLaws.{alikeAt, each-none, each-tested}
-use Rattle.checker.proofs.runs.alike_block.Statement.{statement}
-use Rattle.checker.proofs.runs.alike_block.Tie as tie
+use Rattle.checker.specs.Spans.{Alike}
+use Rattle.checker.proofs.SpanLaws.{alikeAt, each-none, each-tested}
+use Rattle.checker.proofs.spans.alike_block.Statement.{statement}
+use Rattle.checker.proofs.spans.alike_block.Tie as tie
 
 abbrev Inv-loop : tie.InvT-loop
 Inv-loop s at text t all₀ i₀ all i = (all ≡ true → Alike s at text t i) × (i ≤ 32)

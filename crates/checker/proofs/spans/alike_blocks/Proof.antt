@@ -2,10 +2,10 @@
 use Prim.Native.Nat.{_≤_, _-_}
 use native.Mathlib.Omega.{arith}
 use borrow.Author.Tests.{not-false}
-use Rattle.checker.specs.Runs.{Alike}
-use Rattle.checker.proofs.RunLaws.{alikeAt, each-none, alike-join}
-use Rattle.checker.proofs.runs.alike_blocks.Statement.{statement}
-use Rattle.checker.proofs.runs.alike_blocks.Tie as tie
+use Rattle.checker.specs.Spans.{Alike}
+use Rattle.checker.proofs.SpanLaws.{alikeAt, each-none, alike-join}
+use Rattle.checker.proofs.spans.alike_blocks.Statement.{statement}
+use Rattle.checker.proofs.spans.alike_blocks.Tie as tie
 
 abbrev Inv-loop : tie.InvT-loop
 Inv-loop s at text t n i₀ i = Alike s at text t i × (i ≤ n)
