@@ -1,6 +1,6 @@
 // Spans, in blocks: bytes that stop no reading, and bytes that a source and its text have alike. A span may end early: it spares work and settles
-// nothing. The loops over a block have no early end, so they are done many bytes at a time. The checker doesn't see the crate `runs`, which the decoder
-// has for this.
+// nothing. The loops over a block have no early end, so they are done many bytes at a time. The checker doesn't see the crate `runs`, which the
+// decoder has for this.
 ghost use mathlib.Core.Path.{_≡_};
 ghost use mathlib.Core.Bool.{true};
 ghost use Prim.Native.Nat.{_≤_, _+_, _-_};
