@@ -2,26 +2,26 @@
 use Prim.Native.Nat.{ℕ, _+_, _*_, _≤_, _<_}
 use mathlib.Core.Path.{_≡_, refl, sym, _∙_, ap, subst}
 use mathlib.Core.List.{List, []}
-use mathlib.Core.Bool.{_||_}
-use mathlib.Core.Logic.{_⊎_, inl, inr, ⊎-elim}
+use mathlib.Core.Bool.{true, false, _||_}
+use mathlib.Core.Logic.{_⊎_, inl, inr, ⊎-elim, ⊎-map}
 use native.Mathlib.Omega.{arith}
 use lib.Dec.{ltb, eqb}
 use lib.ListN.{length, take}
-use lib.Seq.{sets, take-all}
-use borrow.Author.Tests.{lt-ltb, le-ltb, ne-eqb}
+use lib.Seq.{sets, length-take-le}
+use borrow.Author.Tests.{lt-ltb, le-ltb, eqb-true}
 use Rattle.lists.specs.Notation.{if_then_else_}
-use Rattle.lists.proofs.Choice.{below?, test?}
+use Rattle.lists.proofs.Choice.{no-way, or-true, below?, test?}
 use Rattle.lists.proofs.Layings.{Laying}
 use Rattle.standard.specs.declared.Context.{Context}
 use Rattle.standard.specs.Answers.{done, too-long, context-end, room-asked}
 use Rattle.standard.specs.Errors.{numbers}
 use Rattle.standard.specs.NameList.{builtin}
 use Rattle.standard.specs.Reading.{stopOf, covered, Reading, reading, decode}
-use Rattle.decoder.specs.Writing.{WroteBy, unreadOf, Reads}
+use Rattle.decoder.specs.Writing.{WroteBy, unreadOf, endNamed, Reads}
 use Rattle.standard.proofs.Bounds.{text-fits, errors-fit}
 use Rattle.standard.proofs.Narrow.{builtin-narrow}
 use Rattle.standard.proofs.Joining.{numbers-length}
-use Rattle.standard.proofs.Stops.{stop-done, OneOf, stops-with}
+use Rattle.standard.proofs.Stops.{stop-place, OneOf, stops-with}
 use Rattle.decoder.specs.declared.whole.Decoded.{Decoded}
 use Rattle.decoder.specs.Whole.{RoomFor, NoRoomFor, decoded, answerOf, writtenOf, textNamed, placeNamed, decodedOf, DecodesBy}
 
@@ -69,51 +69,50 @@ module _ (context : Context) (s : List ℕ) (text errors : ℕ) where
   other a n (inr (inr (inr k))) (inl h) e = omega arith
   other a n (inr (inr (inr k))) (inr h) e = omega arith
 
-  long : 65536 < length s → For (answerOf context s text errors)
-  long h = rw (answers-too-long h) (λ e. h, λ e. absurd (omega arith), λ x y. absurd (x refl))
+  -- What holds of each answer where it is given holds of the answer.
+  answer-cases : (P : ℕ → Type 0) → (65536 < length s → P too-long) → (length s ≤ 65536 → NoRoomFor s text errors → P room-asked)
+      → (length s ≤ 65536 → RoomFor s text errors → P (stopOf context s .answer)) → P (answerOf context s text errors)
+  answer-cases P long asked stops = ⊎-elim (λ h. rw (answers-too-long h) (long h)) short (below? 65536 (length s))
+    where
+      errors-room : length s ≤ 65536 → length s + 64 ≤ text → P (answerOf context s text errors)
+      errors-room h k =
+          ⊎-elim (λ l. rw (answers-asked h (inr l)) (asked h (inr l))) (λ l. rw (stops-so h (k, l)) (stops h (k, l)))
+          (below? errors (2 * length s + 8))
 
-  asked : length s ≤ 65536 → NoRoomFor s text errors → For (answerOf context s text errors)
-  asked short h = rw (answers-asked short h) (λ e. absurd (omega arith), λ e. (short, h), λ x y. absurd (y refl))
-
-  stopped : length s ≤ 65536 → RoomFor s text errors → For (answerOf context s text errors)
-  stopped short room =
-      let one = stops-with context s in
-      rw (stops-so short room)
-      (λ e. absurd (other _ _ one (inl refl) e), λ e. absurd (other _ _ one (inr refl) e), λ x y. (short, room, refl))
+      short : length s ≤ 65536 → P (answerOf context s text errors)
+      short h = ⊎-elim (λ k. rw (answers-asked h (inl k)) (asked h (inl k))) (errors-room h) (below? text (length s + 64))
 
   pub answered-for : For (answerOf context s text errors)
-  answered-for = ⊎-elim long short (below? 65536 (length s))
-    where
-      errors-room : length s ≤ 65536 → length s + 64 ≤ text → For (answerOf context s text errors)
-      errors-room h k = ⊎-elim (λ l. asked h (inr l)) (λ l. stopped h (k, l)) (below? errors (2 * length s + 8))
+  answered-for =
+      let one = stops-with context s in
+      answer-cases For (λ h. (λ e. h, λ e. absurd (omega arith), λ x y. absurd (x refl)))
+      (λ short h. (λ e. absurd (omega arith), λ e. (short, h), λ x y. absurd (y refl)))
+      (λ short room. (λ e. absurd (other _ _ one (inl refl) e), λ e. absurd (other _ _ one (inr refl) e), λ x y. (short, room, refl)))
 
-      short : length s ≤ 65536 → For (answerOf context s text errors)
-      short h = ⊎-elim (λ k. asked h (inl k)) (errors-room h) (below? text (length s + 64))
+  -- No other answer is given.
+  pub one-of-six : (answerOf context s text errors ≡ too-long) ⊎ ((answerOf context s text errors ≡ room-asked) ⊎ OneOf (answerOf context s text errors))
+  one-of-six =
+      answer-cases (λ (a : ℕ). (a ≡ too-long) ⊎ ((a ≡ room-asked) ⊎ OneOf a)) (λ h. inl refl) (λ short h. inr (inl refl))
+      (λ short room. inr (inr (stops-with context s)))
 
   -- A source with another answer is not too long, has its room, and stops so.
   pub stopped-for : (a : ℕ) → answerOf context s text errors ≡ a → (a ≡ too-long → ⊥) → (a ≡ room-asked → ⊥)
       → (length s ≤ 65536) × RoomFor s text errors × (stopOf context s .answer ≡ a)
   stopped-for a e x y = subst For e answered-for .2 x y
 
--- A source that stops, and is not done, is answered so.
+-- A source that stops is answered so.
 pub unread-stopped : (context : Context) (s : List ℕ) (a place : ℕ) → a ≡ stopOf context s .answer → place ≡ stopOf context s .place
-    → (a ≡ done → ⊥) → decoded a 0 0 place ≡ decoded a (textNamed a s (reading [] [])) 0 (placeNamed a (stopOf context s))
-unread-stopped context s a place e p x = go (stops-with context s)
+    → decoded a 0 0 place
+    ≡ decoded a (textNamed a s (reading [] [])) 0 (if eqb a too-long || eqb a room-asked then 0 else stopOf context s .place)
+unread-stopped context s a place e p = go (stops-with context s)
   where
-    go : OneOf (stopOf context s .answer) → decoded a 0 0 place ≡ decoded a (textNamed a s (reading [] [])) 0 (placeNamed a (stopOf context s))
-    go (inl k) = absurd (x (e ∙ k))
+    go : OneOf (stopOf context s .answer)
+        → decoded a 0 0 place
+        ≡ decoded a (textNamed a s (reading [] [])) 0 (if eqb a too-long || eqb a room-asked then 0 else stopOf context s .place)
+    go (inl k) = rw (e ∙ k, p)
     go (inr (inl k)) = rw (e ∙ k, p)
     go (inr (inr (inl k))) = rw (e ∙ k, p)
     go (inr (inr (inr k))) = rw (e ∙ k, p)
-
-module _ (context : Context) (s : List ℕ) (text errors : ℕ) {r : Decoded} (unread : r ≡ unreadOf context s text errors) where
-  -- Its number is the answer.
-  pub unread-answer : (a : ℕ) → r .answer ≡ a → answerOf context s text errors ≡ a
-  unread-answer a e = sym (ap (λ (x : Decoded). x .answer) unread) ∙ e
-
-  -- Its place is the context's end.
-  pub unread-place : r .answer ≡ context-end → r .place ≡ stopOf context s .place
-  unread-place e = ap (λ (x : Decoded). x .place) unread ∙ rw (unread-answer context-end e)
 
 module _ {lay : List ℕ → List ℕ} (room : ℕ) (context : Context) (s text errors : List ℕ) {r : Decoded} {text′ errors′ : List ℕ} where
   -- By the answer's number alone.
@@ -136,37 +135,81 @@ module _ {lay : List ℕ → List ℕ} (room : ℕ) (context : Context) (s text 
   unfolding decodedOf
   answer-is d = ap (λ (x : Decoded). x .answer) (d .answered)
 
-  -- 0: a source that is done is covered whole.
-  pub whole-done : answerOf context s (length text) room ≡ done → Reads lay (decode builtin context s) 0 0 text errors r text′ errors′
-      → DecodesBy lay room context s text errors r text′ errors′
-  whole-done e reads =
-      let stops = stopped-for context s (length text) room done e (λ k. omega arith) (λ k. omega arith) .2 in
-      let all : covered context s ≡ s = take-all (stopOf context s .place) s (omega (arith, stop-done context s stops)) in
-      by-answer 0 e (reads .answered ∙ rw all) (reads .texts ∙ rw all) (reads .numbers-of ∙ rw all)
+-- From the answer before anything is written.
+module _ (room : ℕ) (context : Context) (s text errors : List ℕ) {first : Decoded}
+    (unread : first ≡ unreadOf context s (length text) room) where
+  answers : first .answer ≡ answerOf context s (length text) room
+  answers = ap (λ (x : Decoded). x .answer) unread
 
-  -- 7: what stands before the context's end is read.
-  pub whole-left : (place : ℕ) → answerOf context s (length text) room ≡ context-end → place ≡ stopOf context s .place
-      → Reads lay (decode builtin context (take place s)) 7 place text errors r text′ errors′
-      → DecodesBy lay room context s text errors r text′ errors′
-  whole-left place e p reads = by-answer 7 e (reads .answered ∙ rw p) (reads .texts ∙ rw p) (reads .numbers-of ∙ rw p)
+  -- Where the source is not readable nothing is written.
+  pub whole-unread : {width : ℕ} {lay : List ℕ → List ℕ} → Laying width lay → eqb (first .answer) done || eqb (first .answer) context-end ≡ false
+      → DecodesBy lay room context s text errors first text errors
+  unfolding decodedOf writtenOf numbers
+  whole-unread laid f =
+      let g = rw answers at f in
+      let e : writtenOf context s (length text) room ≡ reading [] [] = rw g in
+      record {
+        answered = unread ∙ rw e (ap (decoded _ _ 0) (named _ (one-of-six context s (length text) room) g));
+        texts = rw e;
+        numbers-of = rw (e, laid .none);
+      }
+    where
+      named : (a : ℕ) → (a ≡ too-long) ⊎ ((a ≡ room-asked) ⊎ OneOf a) → eqb a done || eqb a context-end ≡ false
+          → (if eqb a too-long || eqb a room-asked then 0 else stopOf context s .place) ≡ placeNamed a (stopOf context s)
+      named a (inl e) g = rw e
+      named a (inr (inl e)) g = rw e
+      named a (inr (inr (inl e))) g = no-way (rw e at g)
+      named a (inr (inr (inr (inl e)))) g = rw e
+      named a (inr (inr (inr (inr (inl e))))) g = rw e
+      named a (inr (inr (inr (inr (inr e))))) g = no-way (rw e at g)
 
--- With any other answer nothing is written.
-pub whole-unread : {width : ℕ} {lay : List ℕ → List ℕ} → Laying width lay → (room : ℕ) (context : Context) (s text errors : List ℕ)
-    → (answerOf context s (length text) room ≡ done → ⊥) → (answerOf context s (length text) room ≡ context-end → ⊥)
-    → DecodesBy lay room context s text errors (unreadOf context s (length text) room) text errors
-unfolding decodedOf writtenOf numbers
-whole-unread laid room context s text errors x y =
-    let a : ℕ = answerOf context s (length text) room in
-    let e : writtenOf context s (length text) room ≡ reading [] [] = rw (ne-eqb a done x, ne-eqb a context-end y) in
-    record { answered = rw e; texts = rw e; numbers-of = rw (e, laid .none) }
+  module _ (reads : eqb (first .answer) done || eqb (first .answer) context-end ≡ true) where
+    -- Its answer is 0 or 7.
+    either : (first .answer ≡ done) ⊎ (first .answer ≡ context-end)
+    either =
+        ⊎-map (eqb-true (first .answer) done) (eqb-true (first .answer) context-end)
+        (or-true (eqb (first .answer) done) (eqb (first .answer) context-end) reads)
 
--- What was written of a reading says how much it is.
-pub reads-of : {lay : List ℕ → List ℕ} {reads : Reading} {answer place w e : ℕ} {text errors text′ errors′ : List ℕ}
-    → (n : ℕ) → n ≡ length (reads .errors)
-    → WroteBy lay reads text 0 text′ w errors 0 errors′ e → Reads lay reads answer place text errors (decoded answer w n place) text′ errors′
-reads-of {reads = reads} {w = w} n is wrote =
-    let f : w ≡ length (reads .text) = omega (arith, wrote .texts .next-is) in
-    record { answered = rw (f, is); texts = wrote .texts .new-is; numbers-of = wrote .numbers-of .new-is }
+    -- It is read up to where it stops.
+    stops-there : first .place ≡ stopOf context s .place
+    stops-there = ap (λ (x : Decoded). x .place) unread ∙ go either
+      where
+        go : (first .answer ≡ done) ⊎ (first .answer ≡ context-end)
+            → (if eqb (answerOf context s (length text) room) too-long || eqb (answerOf context s (length text) room) room-asked then 0
+            else stopOf context s .place)
+            ≡ stopOf context s .place
+        go (inl e) = rw (sym answers ∙ e)
+        go (inr e) = rw (sym answers ∙ e)
+
+    -- That part is there, and has its rooms.
+    pub part-fits : (first .place ≤ length s) × (first .place ≤ 65536) × (first .place + 64 ≤ length text) × (2 * first .place + 8 ≤ room)
+    part-fits =
+        let k = stopped-for context s (length text) room (first .answer) (sym answers) (λ e. ⊎-elim (λ z. omega arith) (λ z. omega arith) either)
+        (λ e. ⊎-elim (λ z. omega arith) (λ z. omega arith) either) in
+        let h = stop-place context s in
+        (omega (arith, stops-there, h), omega (arith, stops-there, h, k), omega (arith, stops-there, h, k), omega (arith, stops-there, h, k))
+
+    -- It was read.
+    pub whole-read : {lay : List ℕ → List ℕ} {r : Decoded} {text′ errors′ : List ℕ}
+        → Reads lay context (take (first .place) s) (first .answer) text errors r text′ errors′
+        → DecodesBy lay room context s text errors r text′ errors′
+    whole-read {lay} {r} {text′} {errors′} w = go either
+      where
+        go : (first .answer ≡ done) ⊎ (first .answer ≡ context-end) → DecodesBy lay room context s text errors r text′ errors′
+        go (inl e) = by-answer room context s text errors 0 (sym answers ∙ e) (w .answered ∙ rw (e, stops-there)) (w .texts ∙ rw stops-there)
+            (w .numbers-of ∙ rw stops-there)
+        go (inr e) = by-answer room context s text errors 7 (sym answers ∙ e)
+            (w .answered ∙ rw (e, stops-there, length-take-le _ s (stop-place context s))) (w .texts ∙ rw stops-there)
+            (w .numbers-of ∙ rw stops-there)
+
+-- What was written of a covered part says how much it is.
+pub reads-of : {lay : List ℕ → List ℕ} {context : Context} {s : List ℕ} {answer place w e : ℕ} {text errors text′ errors′ : List ℕ}
+    → (n : ℕ) → n ≡ length (decode builtin context s .errors) → place ≡ endNamed answer (length s)
+    → WroteBy lay (decode builtin context s) text 0 text′ w errors 0 errors′ e
+    → Reads lay context s answer text errors (decoded answer w n place) text′ errors′
+reads-of {context = context} {s} {w = w} n is place-is wrote =
+    let f : w ≡ length (decode builtin context s .text) = omega (arith, wrote .texts .next-is) in
+    record { answered = rw (f, is, place-is); texts = wrote .texts .new-is; numbers-of = wrote .numbers-of .new-is }
 
 -- Of a covered source at most 65,536 bytes and errors are written, each error as two numbers.
 pub wrote-few : {width : ℕ} {lay : List ℕ → List ℕ} → Laying width lay → (context : Context) (s : List ℕ)

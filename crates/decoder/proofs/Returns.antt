@@ -155,14 +155,11 @@ pub record NotRefused (r : Stream) (k t e : ℕ) : Type 0 where
   pub errors-room : 8 ≤ e
 
 -- An answer to a chunk of k bytes before any of them is read, 0 where it is not refused.
-module _ (r : Stream) (k t e : ℕ) {o : Bool} {a : ℕ} (is : o ≡ isOpen builtin r) (answers : a ≡ refusalOf o (r .taken) k t e) where
-  answer-is : a ≡ refusalOf (isOpen builtin r) (r .taken) k t e
-  answer-is = answers ∙ ap (λ (x : Bool). refusalOf x (r .taken) k t e) is
-
+module _ (r : Stream) (k t e : ℕ) {a : ℕ} (answers : a ≡ refusalOf builtin r k t e) where
   pub not-refused : a ≡ done → NotRefused r k t e
   unfolding refusalOf
   not-refused none =
-      let f = by (isOpen builtin r) (ltb 65536 k) (ltb 16777216 (r .taken + k)) (lacksRoom t e) (sym answer-is ∙ none) in
+      let f = by (isOpen builtin r) (ltb 65536 k) (ltb 16777216 (r .taken + k)) (lacksRoom t e) (sym answers ∙ none) in
       let room = room-only t e (f .3) in
       record {
         is-open = f .0;
@@ -185,7 +182,7 @@ module _ (r : Stream) (k t e : ℕ) {o : Bool} {a : ℕ} (is : o ≡ isOpen buil
   pub feed-refused : (chunk : List ℕ) → length chunk ≡ k → a ≢ done → feedOf builtin r chunk t e ≡ refuses a r
   unfolding feedOf refusalOf
   feed-refused chunk long =
-      rw long (by (isOpen builtin r) (ltb 65536 k) (ltb 16777216 (r .taken + k)) (lacksRoom t e) _ answer-is)
+      rw long (by (isOpen builtin r) (ltb 65536 k) (ltb 16777216 (r .taken + k)) (lacksRoom t e) _ answers)
     where
       by : (o l m x : Bool) (walks : Outcome)
           → a ≡ (if not o then closed else if l then too-long else if m then stream-too-long else if x then no-room else done) → a ≢ done
@@ -203,7 +200,7 @@ module _ (r : Stream) (k t e : ℕ) {o : Bool} {a : ℕ} (is : o ≡ isOpen buil
   unfolding endOf refusalOf
   end-refused zero =
       by (isOpen builtin r) (ltb 65536 k) (ltb 16777216 (r .taken + k)) (lacksRoom t e) _ (le-ltb 65536 k (omega arith))
-      (λ o. le-ltb 16777216 (r .taken + k) (omega (arith, opened r o .long))) answer-is
+      (λ o. le-ltb 16777216 (r .taken + k) (omega (arith, opened r o .long))) answers
     where
       by : (o l m x : Bool) (ends : Outcome) → l ≡ false → (o ≡ true → m ≡ false)
           → a ≡ (if not o then closed else if l then too-long else if m then stream-too-long else if x then no-room else done) → a ≢ done

@@ -2,7 +2,7 @@
 use Prim.Native.Nat.{ℕ, suc, _+_, _-_, _*_, _≤_}
 use mathlib.Core.Path.{_≡_}
 use mathlib.Core.List.{List, [], _∷_, _++_}
-use mathlib.Core.Bool.{Bool, true, not}
+use mathlib.Core.Bool.{true, not}
 use lib.Dec.{eqb, ltb}
 use lib.ListN.{length, take, drop}
 use Rattle.lists.specs.Notation.{if_then_else_}
@@ -19,12 +19,12 @@ use Rattle.decoder.specs.Machine.{Step, step}
 use Rattle.decoder.specs.Stream as spec
 use Rattle.decoder.specs.Turns.{Fits}
 
--- Why a chunk of so many bytes is refused, and 0 where it is not: whether the record is open, how many bytes were taken, and the rooms.
-unfoldable pub refusalOf : Bool → (taken chunk text errors : ℕ) → ℕ
-refusalOf opened taken chunk text errors =
-    if not opened then closed
+-- Why a chunk of so many bytes is refused, and 0 where it is not: by the record, and how much room there is.
+unfoldable pub refusalOf : List Name → Stream → (chunk text errors : ℕ) → ℕ
+refusalOf names r chunk text errors =
+    if not (spec.isOpen names r) then closed
     else if ltb longest-slice chunk then too-long
-    else if ltb longest-stream (taken + chunk) then stream-too-long
+    else if ltb longest-stream (r .taken + chunk) then stream-too-long
     else if spec.lacksRoom text errors then no-room
     else done
 

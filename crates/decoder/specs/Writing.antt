@@ -2,16 +2,20 @@
 use Prim.Native.Nat.{ℕ, _+_, _≤_, _<_}
 use mathlib.Core.Path.{_≡_}
 use mathlib.Core.List.{List, []}
+use mathlib.Core.Bool.{_||_}
+use lib.Dec.{eqb}
 use lib.ListN.{length, drop}
 use lib.Seq.{sets}
+use Rattle.lists.specs.Notation.{if_then_else_}
 use Rattle.lists.specs.Bytes.{plainly}
 use Rattle.lists.specs.Rooms.{Put}
 use Rattle.standard.specs.declared.Context.{Context}
+use Rattle.standard.specs.Answers.{too-long, context-end, room-asked}
 use Rattle.standard.specs.Errors.{numbers}
 use Rattle.standard.specs.NameList.{builtin}
-use Rattle.standard.specs.Reading.{stopOf, pieces, Reading, reading, _⊕_, joined}
+use Rattle.standard.specs.Reading.{stopOf, pieces, Reading, reading, _⊕_, joined, decode}
 use Rattle.decoder.specs.declared.whole.Decoded.{Decoded}
-use Rattle.decoder.specs.Whole.{decoded, answerOf, textNamed, placeNamed}
+use Rattle.decoder.specs.Whole.{decoded, answerOf, textNamed}
 
 -- A reading was written into a text room from w on, and into an error room from e on, with its numbers laid so.
 pub record WroteBy (lay : List ℕ → List ℕ) (r : Reading) (text : List ℕ) (w : ℕ) (text′ : List ℕ) (w′ : ℕ)
@@ -37,15 +41,21 @@ pub record Advances (context : Context) (s : List ℕ) (at next : ℕ) (text : L
   pub wrote : Wrote gives text w text′ w′ errors e errors′ e′
   pub few : e′ ≤ e + 4
 
--- The answer as it is before anything is written.
+-- The answer as it is before anything is written, with where the source stops, also where it is read to its end.
 abbrev pub unreadOf : Context → List ℕ → (text errors : ℕ) → Decoded
 unreadOf context s text errors =
     let answer : ℕ = answerOf context s text errors in
-    decoded answer (textNamed answer s (reading [] [])) 0 (placeNamed answer (stopOf context s))
+    decoded answer (textNamed answer s (reading [] [])) 0
+    (if eqb answer too-long || eqb answer room-asked then 0 else stopOf context s .place)
 
--- A result that says what was written, and the rooms that hold it, the error numbers laid so.
-pub record Reads (lay : List ℕ → List ℕ) (reads : Reading) (answer place : ℕ) (text errors : List ℕ) (r : Decoded) (text′ errors′ : List ℕ)
+-- The place that is named where a covered part of so many bytes is read.
+abbrev pub endNamed : (answer length : ℕ) → ℕ
+endNamed answer length = if eqb answer context-end then length else 0
+
+-- A covered part was read: the result says what was written, and the rooms hold it, the error numbers laid so.
+pub record Reads (lay : List ℕ → List ℕ) (context : Context) (s : List ℕ) (answer : ℕ) (text errors : List ℕ) (r : Decoded) (text′ errors′ : List ℕ)
     : Type 0 where
-  pub answered : r ≡ decoded answer (length (reads .text)) (length (reads .errors)) place
-  pub texts : text′ ≡ sets text 0 (reads .text)
-  pub numbers-of : errors′ ≡ sets errors 0 (lay (numbers (reads .errors)))
+  pub answered : r
+      ≡ decoded answer (length (decode builtin context s .text)) (length (decode builtin context s .errors)) (endNamed answer (length s))
+  pub texts : text′ ≡ sets text 0 (decode builtin context s .text)
+  pub numbers-of : errors′ ≡ sets errors 0 (lay (numbers (decode builtin context s .errors)))

@@ -142,11 +142,7 @@ pub(crate) fn kept(rest: &[u8], n: usize) -> [u8; 3]
     ensures { λ r. ⌜ r ≡ spec.padded 3 (take n (now (rest .entry))) ⌝ }
 {
     let mut part = [0u8; 3];
-    let mut i: usize = 0;
-    while i < n {
-        part[i] = rest[i];
-        i += 1;
-    }
+    rooms::copy(&rest[..n], &mut part, 0);
     part
 }
 

@@ -3,12 +3,9 @@
 ghost use mathlib.Core.Path.{_≡_};
 ghost use Prim.Native.Nat.{_≤_, _<_, _+_, _-_, min};
 ghost use lib.ListN.{length, getD, take, drop};
-ghost use Rattle.lists.specs.Notation.{front};
 ghost use Rattle.lists.specs.Rooms.{Put};
-ghost use Rattle.standard.specs.Contexts.{endByte};
 ghost use Rattle.standard.specs.Names.{tableOf};
 ghost use Rattle.standard.specs.NameList.{builtin};
-ghost use Rattle.runs.specs.Kinds.{plain};
 ghost use Rattle.decoder.specs.Skims.{PlainRun, inReference, Ends, Alone, hasRoom, Skims};
 use crate::classes::alphanumeric;
 use crate::classes::character_code;
@@ -33,13 +30,6 @@ fn least(a: usize, b: usize) -> usize
     b
 }
 
-// The place after the bytes from `from` on that are characters of their own and stand for themselves, without an error.
-fn plain_run(context: Context, s: &[u8], from: usize) -> usize
-    ensures { λ r. ⌜ r ≡ from + length (front (plain (endByte context)) (drop from (now (s .entry)))) ⌝ }
-{
-    runs::plain_end(end_of(context), s, from)
-}
-
 // The place in the chunk up to which it was read, and the place after its text.
 pub(crate) struct Copied {
     pub at: usize,
@@ -60,7 +50,7 @@ pub(crate) fn copy_run(
 {
     let free = text.len() - w - 63;
     let limit = least(chunk.len() - at, free);
-    let end = plain_run(context, &chunk[..at + limit], at);
+    let end = runs::plain_end(end_of(context), &chunk[..at + limit], at);
     Copied {
         at: end,
         text: rooms::copy(&chunk[at..end], text, w),

@@ -1,11 +1,7 @@
 // Where a source stops, and why.
 ghost use mathlib.Core.Path.{_≡_};
-ghost use Prim.Native.Nat.{_+_};
-ghost use lib.ListN.{length, drop};
-ghost use Rattle.lists.specs.Notation.{front};
 ghost use Rattle.standard.specs.Contexts.{endByte};
 ghost use Rattle.standard.specs.Reading.{callsFor, answerTo, sizeOf, stopOf};
-ghost use Rattle.runs.specs.Kinds.{ordinary};
 use standard::Context;
 use standard::characters::CharRead;
 use standard::characters::read_char;
@@ -70,20 +66,13 @@ fn size_of(read: CharRead) -> usize
     }
 }
 
-// The place after the bytes from `from` on that are characters of their own and stop no reading.
-fn ordinary_run(context: Context, s: &[u8], from: usize) -> usize
-    ensures { λ r. ⌜ r ≡ from + length (front (ordinary (endByte context)) (drop from (now (s .entry)))) ⌝ }
-{
-    runs::ordinary_end(end_of(context), s, from)
-}
-
 // Where a source stops: runs of ordinary bytes are passed at once, and each other character is read.
 pub(crate) fn find_stop(context: Context, s: &[u8]) -> Stopped
     ensures { λ r. ⌜ (r .answer ≡ stopOf context (now (s .entry)) .answer) × (r .place ≡ stopOf context (now (s .entry)) .place) ⌝ }
 {
     let mut at: usize = 0;
     while at < s.len() {
-        let from = ordinary_run(context, s, at);
+        let from = runs::ordinary_end(end_of(context), s, at);
         let read = read_char(&s[from..]);
         let answer = answer_to(context, read);
         if answer != 0 {

@@ -4,6 +4,7 @@ ghost use mathlib.Core.Bool.{true};
 ghost use Prim.Native.Nat.{_≤_, _-_, _/_};
 ghost use lib.ListN.{length, take};
 ghost use Rattle.lists.specs.Notation.{if_then_else_};
+ghost use Rattle.standard.specs.Names.{tableOf};
 ghost use Rattle.standard.specs.NameList.{builtin};
 ghost use Rattle.decoder.specs.Stream as spec;
 ghost use Rattle.decoder.specs.Feeding.{refusalOf};
@@ -70,11 +71,7 @@ fn cleared(store: [u8; 32], count: usize) -> [u8; 32]
     ensures { λ r. ⌜ r ≡ spec.padded 32 (take count store) ⌝ }
 {
     let mut clear = [0u8; 32];
-    let mut i: usize = 0;
-    while i < count {
-        clear[i] = store[i];
-        i += 1;
-    }
+    rooms::copy(&store[..count], &mut clear, 0);
     clear
 }
 
@@ -148,16 +145,17 @@ fn closed(context: Context, taken: u32) -> Stream
 }
 
 // Why a chunk of so many bytes is refused, 8, 3, 4 or 5, and 0 where it is not. The end is refused as a chunk of no bytes is.
-fn refusal(opened: bool, taken: u32, chunk: usize, text: usize, errors: usize) -> u32
-    ensures { λ r. ⌜ r ≡ refusalOf opened taken chunk text errors ⌝ }
+fn refusal(table: &[u8], record: Stream, chunk: usize, text: usize, errors: usize) -> u32
+    requires { ⌜ now table ≡ tableOf builtin ⌝ }
+    ensures { λ r. ⌜ r ≡ refusalOf builtin «record» chunk text errors ⌝ }
 {
-    if !opened {
+    if !is_open(table, record) {
         return 8;
     }
     if 65536 < chunk {
         return 3;
     }
-    if 16777216 < taken as usize + chunk {
+    if 16777216 < record.taken as usize + chunk {
         return 4;
     }
     if lacks_room(text, errors) {
@@ -252,15 +250,13 @@ impl Stream {
             (now (text .entry)) (now (errors .entry)) r (now (text .exit)) (now (errors .exit)) ⌝ }
     {
         let table = builtin_names();
-        let opened = is_open(&table, self);
-        let before = self.taken;
-        let answer = refusal(opened, before, chunk.len(), text.len(), errors.len());
+        let answer = refusal(&table, self, chunk.len(), text.len(), errors.len());
         if answer != 0 {
             return refused(answer, self);
         }
         let context = self.context;
         let walked = walk(&table, cleared_record(self), chunk, text, errors);
-        walked_to(context, before, walked)
+        walked_to(context, self.taken, walked)
     }
 
     // The source ends here.
@@ -269,13 +265,12 @@ impl Stream {
             (now (text .entry)) (now (errors .entry)) r (now (text .exit)) (now (errors .exit)) ⌝ }
     {
         let table = builtin_names();
-        let opened = is_open(&table, self);
-        let taken = self.taken;
-        let answer = refusal(opened, taken, 0, text.len(), errors.len());
+        let answer = refusal(&table, self, 0, text.len(), errors.len());
         if answer != 0 {
             return refused(answer, self);
         }
         let context = self.context;
+        let taken = self.taken;
         if 0 < self.part_count {
             return Fed {
                 answer: 1,

@@ -6,7 +6,7 @@ ghost use Rattle.lists.specs.Bytes.{plainly, fours};
 ghost use Rattle.standard.specs.Names.{tableOf};
 ghost use Rattle.standard.specs.NameList.{builtin};
 ghost use Rattle.standard.specs.Reading.{decode};
-ghost use Rattle.decoder.specs.Writing.{WroteBy, Wrote, Advances, unreadOf, Reads};
+ghost use Rattle.decoder.specs.Writing.{WroteBy, Wrote, Advances, unreadOf, endNamed, Reads};
 ghost use Rattle.decoder.specs.Whole.{Decodes, DecodesBytes};
 use crate::pieces::piece_at;
 use crate::skimming::copy_run;
@@ -111,7 +111,7 @@ fn decode_pieces_bytes(
     Written { text: w, errors: e }
 }
 
-// The answer before anything is written: 3, then 9, then why and where the source stops.
+// The answer before anything is written: 3, then 9, then why the source stops, and where, also where it is read to its end.
 fn unread(context: Context, source: &[u8], text: usize, errors: usize) -> Decoded
     ensures { λ r. ⌜ r ≡ unreadOf context (now (source .entry)) text errors ⌝ }
 {
@@ -134,14 +134,6 @@ fn unread(context: Context, source: &[u8], text: usize, errors: usize) -> Decode
         };
     }
     let stop = find_stop(context, source);
-    if stop.answer == 0 {
-        return Decoded {
-            answer: 0,
-            text: 0,
-            errors: 0,
-            place: 0,
-        };
-    }
     Decoded {
         answer: stop.answer,
         text: 0,
@@ -150,17 +142,27 @@ fn unread(context: Context, source: &[u8], text: usize, errors: usize) -> Decode
     }
 }
 
-// Writes the reading of a covered source, and answers so, with the place that is named.
+// The place that is named where a covered part of so many bytes is read: its end, where that is the context's.
+fn end_named(answer: u32, length: usize) -> u32
+    requires { ⌜ length ≤ 65536 ⌝ }
+    ensures { λ r. ⌜ r ≡ endNamed answer length ⌝ }
+{
+    if answer == 7 {
+        return length as u32;
+    }
+    0
+}
+
+// Writes the reading of a covered part, and answers so.
 fn read_covered(
     context: Context,
     s: &[u8],
     text: &mut [u8],
     errors: &mut [u32],
     answer: u32,
-    place: u32,
 ) -> Decoded
     requires { ⌜ (length (now s) ≤ 65536) × (length (now s) + 64 ≤ length (now text)) × (2 * length (now s) + 8 ≤ length (now errors)) ⌝ }
-    ensures { λ r. ⌜ Reads plainly (decode builtin context (now (s .entry))) answer place (now (text .entry)) (now (errors .entry))
+    ensures { λ r. ⌜ Reads plainly context (now (s .entry)) answer (now (text .entry)) (now (errors .entry))
         r (now (text .exit)) (now (errors .exit)) ⌝ }
 {
     let table = builtin_names();
@@ -169,7 +171,7 @@ fn read_covered(
         answer,
         text: written.text as u32,
         errors: (written.errors / 2) as u32,
-        place,
+        place: end_named(answer, s.len()),
     }
 }
 
@@ -180,10 +182,9 @@ fn read_covered_bytes(
     text: &mut [u8],
     errors: &mut [u8],
     answer: u32,
-    place: u32,
 ) -> Decoded
     requires { ⌜ (length (now s) ≤ 65536) × (length (now s) + 64 ≤ length (now text)) × (4 * (2 * length (now s) + 8) ≤ length (now errors)) ⌝ }
-    ensures { λ r. ⌜ Reads fours (decode builtin context (now (s .entry))) answer place (now (text .entry)) (now (errors .entry))
+    ensures { λ r. ⌜ Reads fours context (now (s .entry)) answer (now (text .entry)) (now (errors .entry))
         r (now (text .exit)) (now (errors .exit)) ⌝ }
 {
     let table = builtin_names();
@@ -192,7 +193,7 @@ fn read_covered_bytes(
         answer,
         text: written.text as u32,
         errors: (written.errors / 8) as u32,
-        place,
+        place: end_named(answer, s.len()),
     }
 }
 
@@ -200,15 +201,18 @@ fn read_covered_bytes(
 pub fn decode_whole(context: Context, source: &[u8], text: &mut [u8], errors: &mut [u32]) -> Decoded
     ensures { λ r. ⌜ Decodes context (now (source .entry)) (now (text .entry)) (now (errors .entry)) r (now (text .exit)) (now (errors .exit)) ⌝ }
 {
-    let answer = unread(context, source, text.len(), errors.len());
-    let place = answer.place;
-    if answer.answer == 0 {
-        return read_covered(context, source, text, errors, 0, 0);
+    let first = unread(context, source, text.len(), errors.len());
+    let readable = (first.answer == 0) | (first.answer == 7);
+    if !readable {
+        return first;
     }
-    if answer.answer == 7 {
-        return read_covered(context, &source[..place as usize], text, errors, 7, place);
-    }
-    answer
+    read_covered(
+        context,
+        &source[..first.place as usize],
+        text,
+        errors,
+        first.answer,
+    )
 }
 
 // The same where the error room is bytes, four a number, the lowest first.
@@ -216,13 +220,16 @@ pub fn decode_bytes(context: Context, source: &[u8], text: &mut [u8], errors: &m
     ensures { λ r. ⌜ DecodesBytes context (now (source .entry)) (now (text .entry)) (now (errors .entry)) r (now (text .exit))
         (now (errors .exit)) ⌝ }
 {
-    let answer = unread(context, source, text.len(), errors.len() / 4);
-    let place = answer.place;
-    if answer.answer == 0 {
-        return read_covered_bytes(context, source, text, errors, 0, 0);
+    let first = unread(context, source, text.len(), errors.len() / 4);
+    let readable = (first.answer == 0) | (first.answer == 7);
+    if !readable {
+        return first;
     }
-    if answer.answer == 7 {
-        return read_covered_bytes(context, &source[..place as usize], text, errors, 7, place);
-    }
-    answer
+    read_covered_bytes(
+        context,
+        &source[..first.place as usize],
+        text,
+        errors,
+        first.answer,
+    )
 }

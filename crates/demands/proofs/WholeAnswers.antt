@@ -1,14 +1,13 @@
 -- Demand 1 for whole sources: for each line of the table of answers, when `decode_whole` and `decode_bytes` give it, and what then holds.
 -- r, text′ and errors′ are whatever meets their contract for a source and two rooms, with room for so many error numbers: for `decode_whole` these
 -- are laid plainly and room is the error room's length, for `decode_bytes` they are laid in fours and room is a quarter of it.
-use Prim.Native.Nat.{ℕ, _+_, _*_, _≤_, _<_}
+use Prim.Native.Nat.{ℕ, _+_, _≤_, _<_}
 use mathlib.Core.Path.{_≡_, refl, _∙_}
 use mathlib.Core.List.{List, []}
-use mathlib.Core.Logic.{_⊎_, inl, inr, ⊎-elim}
+use mathlib.Core.Logic.{_⊎_}
 use native.Mathlib.Omega.{arith}
 use lib.ListN.{length}
 use lib.Seq.{sets}
-use Rattle.lists.proofs.Choice.{below?}
 use Rattle.lists.proofs.Layings.{Laying}
 use Rattle.standard.specs.declared.Context.{Context}
 use Rattle.standard.specs.Answers.{done, ill-formed, nul, too-long, context-end, room-asked}
@@ -17,8 +16,18 @@ use Rattle.standard.specs.NameList.{builtin}
 use Rattle.standard.specs.Reading.{stopOf, covered, Reading, reading, decode}
 use Rattle.decoder.specs.declared.whole.Decoded.{Decoded}
 use Rattle.decoder.specs.Whole.{RoomFor, NoRoomFor, decoded, answerOf, textNamed, placeNamed, DecodesBy}
-use Rattle.decoder.proofs.Answering.{writtenWith, answer-says, answer-is, answers-too-long, answers-asked, stops-so, answered-for, stopped-for}
-use Rattle.standard.proofs.Stops.{OneOf, stops-with}
+use Rattle.decoder.proofs.Answering.{
+  writtenWith,
+  answers-too-long,
+  answers-asked,
+  stops-so,
+  answered-for,
+  one-of-six,
+  stopped-for,
+  answer-says,
+  answer-is,
+}
+use Rattle.standard.proofs.Stops.{OneOf}
 use Rattle.demands.proofs.Lines.{Line, line-by}
 
 module _ {width : ℕ} {lay : List ℕ → List ℕ} (laid : Laying width lay) (room : ℕ) (context : Context) (s text errors : List ℕ) (r : Decoded)
@@ -83,10 +92,4 @@ module _ {width : ℕ} {lay : List ℕ → List ℕ} (laid : Laying width lay) (
 
   -- No other answer is given.
   pub no-other : (r .answer ≡ too-long) ⊎ ((r .answer ≡ room-asked) ⊎ OneOf (r .answer))
-  no-other =
-      rw is
-      (⊎-elim (λ h. inl (answers-too-long context s (length text) room h))
-      (λ short. ⊎-elim (λ h. inr (inl (answers-asked context s (length text) room short (inl h))))
-      (λ h. ⊎-elim (λ k. inr (inl (answers-asked context s (length text) room short (inr k))))
-      (λ k. inr (inr (rw (stops-so context s (length text) room short (h, k)) (stops-with context s))))
-      (below? room (2 * length s + 8))) (below? (length text) (length s + 64))) (below? 65536 (length s)))
+  no-other = rw is (one-of-six context s (length text) room)

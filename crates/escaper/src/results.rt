@@ -1,11 +1,9 @@
 // The result of escaping a well-formed input: a run of quiet bytes, then what one other byte begins, and again. Its length first, and then its bytes.
 ghost use mathlib.Core.Path.{_≡_};
-ghost use Prim.Native.Nat.{_≤_, _+_};
-ghost use lib.ListN.{length, drop};
-ghost use Rattle.lists.specs.Notation.{front};
+ghost use Prim.Native.Nat.{_≤_};
+ghost use lib.ListN.{length};
 ghost use Rattle.lists.specs.Rooms.{Put};
 ghost use Rattle.standard.specs.Answers.{done};
-ghost use Rattle.runs.specs.Kinds.{quiet};
 ghost use Rattle.escaper.specs.Escape.{escape, escapeStop};
 ghost use Rattle.escaper.specs.Walk.{quoteOf};
 use crate::Mode;
@@ -21,13 +19,6 @@ fn quote_of(mode: Mode) -> u8
     }
 }
 
-// The place after the quiet bytes of a mode that stand from `from` on.
-fn quiet_run(mode: Mode, s: &[u8], from: usize) -> usize
-    ensures { λ r. ⌜ r ≡ from + length (front (quiet (quoteOf mode)) (drop from (now (s .entry)))) ⌝ }
-{
-    runs::quiet_end(quote_of(mode), s, from)
-}
-
 // The length of the result.
 pub(crate) fn escaped_length(mode: Mode, s: &[u8]) -> usize
     requires { ⌜ (length (now s) ≤ 65536) × (escapeStop (now s) .answer ≡ done) ⌝ }
@@ -36,7 +27,7 @@ pub(crate) fn escaped_length(mode: Mode, s: &[u8]) -> usize
     let mut at: usize = 0;
     let mut count: usize = 0;
     loop {
-        let end = quiet_run(mode, s, at);
+        let end = runs::quiet_end(quote_of(mode), s, at);
         count += end - at;
         if s.len() <= end {
             return count;
@@ -55,7 +46,7 @@ pub(crate) fn write_escaped(mode: Mode, s: &[u8], out: &mut [u8]) -> usize
     let mut at: usize = 0;
     let mut next: usize = 0;
     loop {
-        let end = quiet_run(mode, s, at);
+        let end = runs::quiet_end(quote_of(mode), s, at);
         next = rooms::copy(&s[at..end], out, next);
         if s.len() <= end {
             return next;

@@ -24,7 +24,8 @@ pub(crate) struct Head {
     pub size: usize,
 }
 
-// The head of a record.
+// Its bytes are the kind; the two rooms and how many bytes fill the source up, each as four; and how many bytes the source has of its own and how
+// many stand before these, each as two.
 pub(crate) fn read_head(s: &[u8]) -> Head
     requires { ⌜ 17 ≤ length (now s) ⌝ }
 {

@@ -11,6 +11,7 @@ abbrev pub endByte : Context → ℕ
 endByte Text = code "<"
 endByte Attribute = code "\""
 
+-- A source ends before that character.
 abbrev pub ends : Context → ℕ → Bool
 ends context c = eqb c (endByte context)
 

@@ -1,5 +1,5 @@
 -- The invariant: where the pieces from `at` on are met, all pieces of the row are.
-use Prim.Native.Nat.{_-_}
+use Prim.Native.Nat.{_+_, _-_, _≤_, _<_}
 use native.Mathlib.Omega.{arith}
 use lib.ListN.{length, drop}
 use Rattle.standard.specs.Names.{records}
@@ -62,45 +62,30 @@ meet-codes-requires c κs =
     let c6 = c .before .before .before .before .before .before in
     c6 .loop .inv .errors-there
 
+-- The next piece has a byte, and is there.
+there : (c : tie.After-meet-codes Inv-loop μ-loop) →
+    let piece = c .before .before .before in
+    let run = piece .before .before in
+    let size = piece .piece-at .result .size in
+    (0 < size) × (run .before .before .loop .at + run .text-run .result + size ≤ length (run .before .before .before .before .before .before .before .before .args .s .now))
+there c =
+    let piece = c .before .before .before in
+    let run = piece .before .before in
+    next-there (run .before .before .loop .inv) (run .text-run .ensures) (run .before .loop-test .taken) (run .before .before .before .before .before .before .before .before .pre .1)
+    (piece .before .if1 .left) (pieceOf (piece .piece-at .result)) (piece .piece-at .ensures)
+
 add-at : tie.Need-add-at Inv-loop μ-loop
-add-at c =
-    let c4 = c .before .before .before .before in
-    let c5 = c4 .before in
-    let c6 = c5 .before in
-    let c7 = c6 .before in
-    let c8 = c7 .before in
-    let c14 = c8 .before .before .before .before .before .before in
-    omega (
-      arith,
-      c14 .pre .2,
-      next-there (c8 .loop .inv) (c6 .text-run .ensures) (c7 .loop-test .taken) (c14 .pre .1) (c5 .if1 .left)
-          (pieceOf (c4 .piece-at .result)) (c4 .piece-at .ensures),
-    )
+add-at c = omega (arith, there (c .before), c .before .before .before .before .before .before .before .before .before .before .before .before .before .before .pre .2)
 
 loop-less : tie.Need-loop-less Inv-loop μ-loop
-loop-less c =
-    let c4 = c .before .before .before .before in
-    let c5 = c4 .before in
-    let c6 = c5 .before in
-    let c7 = c6 .before in
-    let c8 = c7 .before in
-    let c14 = c8 .before .before .before .before .before .before in
-    omega (
-      arith,
-      next-there (c8 .loop .inv) (c6 .text-run .ensures) (c7 .loop-test .taken) (c14 .pre .1) (c5 .if1 .left)
-          (pieceOf (c4 .piece-at .result)) (c4 .piece-at .ensures),
-    )
+loop-less c = omega (arith, there (c .before))
 
 loop-again : tie.Need-loop-again Inv-loop μ-loop
 loop-again c =
-    let c4 = c .before .before .before .before in
-    let c5 = c4 .before in
-    let c6 = c5 .before in
-    let c7 = c6 .before in
-    let c8 = c7 .before in
-    let c14 = c8 .before .before .before .before .before .before in
-    next-on (c8 .loop .inv) (c6 .text-run .ensures) (c7 .loop-test .taken) (c14 .pre .1) (c5 .if1 .left)
-    (pieceOf (c4 .piece-at .result)) (c4 .piece-at .ensures)
+    let piece = c .before .before .before .before in
+    let run = piece .before .before in
+    next-on (run .before .before .loop .inv) (run .text-run .ensures) (run .before .loop-test .taken) (run .before .before .before .before .before .before .before .before .pre .1)
+    (piece .before .if1 .left) (pieceOf (piece .piece-at .result)) (piece .piece-at .ensures)
     (c .before .before .meet-text .ensures) (c .before .meet-codes .ensures)
 
 returns-2 : tie.Need-returns-2 Inv-loop μ-loop

@@ -3,9 +3,12 @@ use Prim.Native.Nat.{_-_}
 use mathlib.Core.Path.{sym, ap}
 use native.Mathlib.Omega.{arith}
 use lib.ListN.{length}
+use Rattle.standard.specs.Contexts.{endByte}
 use Rattle.standard.specs.Reading.{callsFor, Stop}
-use Rattle.standard.proofs.Looking.{Looking, looking-start, looking-end}
-use Rattle.decoder.proofs.Stopping.{run-passed, turn-stops, turn-on, turn-passes}
+use Rattle.standard.proofs.Looking.{Looking, looking-start, looking-run, looking-end}
+use Rattle.runs.specs.Kinds.{ordinary}
+use Rattle.decoder.proofs.Quiet.{ordinary-is}
+use Rattle.decoder.proofs.Stopping.{turn-stops, turn-on, turn-passes}
 use borrow.Author.Needs.{needs}
 use Rattle.decoder.proofs.stops.find_stop.Statement.{statement}
 use Rattle.decoder.proofs.stops.find_stop.Tie as tie
@@ -19,18 +22,25 @@ abbrev μ-loop : tie.MeasureT-loop
 loop-holds : tie.Need-loop-holds Inv-loop μ-loop
 loop-holds c = looking-start
 
-ordinary-run-requires : tie.Need-ordinary-run-requires Inv-loop μ-loop
-ordinary-run-requires c κs = search needs
+end-of-requires : tie.Need-end-of-requires Inv-loop μ-loop
+end-of-requires c κs = search needs
+
+ordinary-end-requires : tie.Need-ordinary-end-requires Inv-loop μ-loop
+ordinary-end-requires c κs = search needs
+
+-- A run of ordinary bytes is passed.
+passed : (c : tie.After-ordinary-end Inv-loop μ-loop) →
+    let a = c .before .before .before .before .before .args in Looking (callsFor (a .context)) (a .s .now) (c .ordinary-end .result)
+passed c =
+    let context = c .before .before .before .before .before .args .context in
+    looking-run (c .before .before .before .loop .inv) (ordinary (endByte context)) (ordinary-is context)
+    (rw (c .before .end-of .ensures) at (c .ordinary-end .ensures))
 
 sub-read-char : tie.Need-sub-read-char Inv-loop μ-loop
-sub-read-char c =
-    let c4 = c .before .before .before .before in
-    omega (arith, run-passed (c4 .args .context) (c .before .before .loop .inv) (c .ordinary-run .ensures) .there)
+sub-read-char c = omega (arith, passed c .there)
 
 part-read-char-start : tie.Need-part-read-char-start Inv-loop μ-loop
-part-read-char-start c =
-    let c4 = c .before .before .before .before in
-    omega (arith, run-passed (c4 .args .context) (c .before .before .loop .inv) (c .ordinary-run .ensures) .there)
+part-read-char-start c = omega (arith, passed c .there)
 
 part-read-char-end : tie.Need-part-read-char-end Inv-loop μ-loop
 part-read-char-end c = search needs
@@ -43,33 +53,31 @@ answer-to-requires c κs = search needs
 
 returns : tie.Need-returns Inv-loop μ-loop
 returns c =
-    let c4 = c .before .before .before .before in
-    let c8 = c4 .before .before .before .before in
-    turn-stops (c8 .args .context) (c4 .before .before .loop .inv) (c4 .ordinary-run .ensures) (c .before .before .read-char .ensures)
-    (c .before .answer-to .ensures) (c .if1 .taken)
+    let run = c .before .before .before .before in
+    let context = run .before .before .before .before .before .args .context in
+    turn-stops context (passed run) (c .before .before .read-char .ensures) (c .before .answer-to .ensures) (c .if1 .taken)
 
 size-of-requires : tie.Need-size-of-requires Inv-loop μ-loop
 size-of-requires c κs = search needs
 
 loop-again : tie.Need-loop-again Inv-loop μ-loop
 loop-again c =
-    let c3 = c .before .before .before in
-    let c5 = c3 .before .before in
-    let c9 = c5 .before .before .before .before in
-    turn-on (c9 .args .context) (c5 .before .before .loop .inv) (c5 .ordinary-run .ensures) (c3 .read-char .ensures)
-    (c .before .before .answer-to .ensures) (c .before .if1 .left) (c .size-of .ensures)
+    let d = c .before .before .before in
+    let run = d .before .before in
+    let context = run .before .before .before .before .before .args .context in
+    turn-on context (passed run) (d .read-char .ensures) (c .before .before .answer-to .ensures) (c .before .if1 .left) (c .size-of .ensures)
 
 add-at : tie.Need-add-at Inv-loop μ-loop
 add-at c = omega (arith, loop-again c .there)
 
 loop-less : tie.Need-loop-less Inv-loop μ-loop
 loop-less c =
-    let c3 = c .before .before .before in
-    let c5 = c3 .before .before in
-    let c9 = c5 .before .before .before .before in
-    let turn = turn-passes (c9 .args .context) (c5 .before .before .loop .inv) (c5 .ordinary-run .ensures) (c3 .read-char .ensures)
-    (c .before .before .answer-to .ensures) (c .before .if1 .left) (c .size-of .ensures) in
-    omega (arith, turn (c5 .before .loop-test .taken), loop-again c .there)
+    let d = c .before .before .before in
+    let run = d .before .before in
+    let context = run .before .before .before .before .before .args .context in
+    let turn = turn-passes context (passed run) (d .read-char .ensures) (c .before .before .answer-to .ensures) (c .before .if1 .left)
+    (c .size-of .ensures) (run .before .before .loop-test .taken) (omega (arith, run .ordinary-end .ensures)) in
+    omega (arith, turn, loop-again c .there)
 
 returns-2 : tie.Need-returns-2 Inv-loop μ-loop
 returns-2 c =
@@ -83,7 +91,8 @@ find-stop-spec =
     Inv-loop
     μ-loop
     loop-holds
-    ordinary-run-requires
+    end-of-requires
+    ordinary-end-requires
     sub-read-char
     part-read-char-start
     part-read-char-end

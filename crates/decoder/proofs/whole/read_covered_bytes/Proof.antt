@@ -14,23 +14,20 @@ slice-aggregate-decode-pieces-bytes c = search needs
 decode-pieces-bytes-requires : tie.Need-decode-pieces-bytes-requires
 decode-pieces-bytes-requires c κs = search needs
 
-cast-t16 : tie.Need-cast-t16
-cast-t16 c =
-    let a = c .before .before .before .before .before .before .before .before .before .before .before .before .before in
-    omega (
-      arith,
-      wrote-few laid-fours (a .args .context) (a .args .s .now) (a .pre .0)
-          (c .before .before .before .before .before .decode-pieces-bytes .ensures),
-    )
+cast-t15 : tie.Need-cast-t15
+cast-t15 c =
+    let d = c .before .before .before .before .before in
+    let a = d .before .before .before .before .before .before .before .before in
+    omega (arith, wrote-few laid-fours (a .args .context) (a .args .s .now) (a .pre .0) (d .decode-pieces-bytes .ensures))
 
-cast-t18 : tie.Need-cast-t18
-cast-t18 c =
-    let a = c .before .before .before .before .before .before .before .before .before .before .before .before .before .before in
-    omega (
-      arith,
-      wrote-few laid-fours (a .args .context) (a .args .s .now) (a .pre .0)
-          (c .before .before .before .before .before .before .decode-pieces-bytes .ensures),
-    )
+cast-t17 : tie.Need-cast-t17
+cast-t17 c =
+    let d = c .before .before .before .before .before .before in
+    let a = d .before .before .before .before .before .before .before .before in
+    omega (arith, wrote-few laid-fours (a .args .context) (a .args .s .now) (a .pre .0) (d .decode-pieces-bytes .ensures))
+
+end-named-requires : tie.Need-end-named-requires
+end-named-requires c κs = c .before .before .before .before .before .before .before .before .before .before .before .before .before .before .pre .0
 
 same-length : tie.Need-same-length
 same-length c = search needs
@@ -40,9 +37,9 @@ same-length-2 c = search needs
 
 returns : tie.Need-returns
 returns c =
-    let a = c .before .before .before .before .before .before .before .before .before .before .before .before .before .before in
-    let d = c .before .before .before .before .before .before .decode-pieces-bytes .ensures in
-    reads-of _ (omega (arith, wrote-few laid-fours (a .args .context) (a .args .s .now) (a .pre .0) d)) d
+    let d = c .before .before .before .before .before .before .before in
+    let a = d .before .before .before .before .before .before .before .before in
+    reads-of _ (omega (arith, wrote-few laid-fours (a .args .context) (a .args .s .now) (a .pre .0) (d .decode-pieces-bytes .ensures))) (c .end-named .ensures) (d .decode-pieces-bytes .ensures)
 
 pub read-covered-bytes-spec : {M : Type 1} → statement M
 read-covered-bytes-spec =
@@ -51,8 +48,9 @@ read-covered-bytes-spec =
     builtin-names-requires
     slice-aggregate-decode-pieces-bytes
     decode-pieces-bytes-requires
-    cast-t16
-    cast-t18
+    cast-t15
+    cast-t17
+    end-named-requires
     same-length
     same-length-2
     returns)

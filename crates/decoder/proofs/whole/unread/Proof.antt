@@ -1,4 +1,4 @@
-use mathlib.Core.Path.{sym, _∙_}
+use mathlib.Core.Path.{sym}
 use native.Mathlib.Omega.{arith}
 use borrow.Author.Tests.{lt-ltb, le-ltb}
 use Rattle.standard.proofs.Stops.{stop-place}
@@ -34,25 +34,19 @@ returns-2 c = rw (le-ltb _ _ (c .before .if1 .left), c .if2 .taken)
 find-stop-requires : tie.Need-find-stop-requires
 find-stop-requires c κs = search needs
 
+cast-t15 : tie.Need-cast-t15
+cast-t15 c =
+    let a = c .before .before .before .before .before .args in
+    let h = stop-place (a .context) (a .source .now) in
+    omega (arith, c .before .find-stop .ensures .1)
+
 returns-3 : tie.Need-returns-3
 unfolding answerOf
 returns-3 c =
-    let e = sym (c .before .before .find-stop .ensures .0) ∙ c .if3 .taken in
-    rw (le-ltb _ _ (c .before .before .before .before .if1 .left), c .before .before .before .if2 .left, e)
-
-cast-t15 : tie.Need-cast-t15
-cast-t15 c =
-    let a = c .before .before .before .before .before .before .before .args in
-    let h = stop-place (a .context) (a .source .now) in
-    omega (arith, c .before .before .before .find-stop .ensures .1)
-
-returns-4 : tie.Need-returns-4
-unfolding answerOf
-returns-4 c =
-    let a = c .before .before .before .before .before .before .before .args in
-    let f = c .before .before .before .find-stop .ensures in
-    rw (le-ltb _ _ (c .before .before .before .before .before .if1 .left), c .before .before .before .before .if2 .left, sym (f .0))
-    (unread-stopped (a .context) (a .source .now) _ _ (f .0) (f .1) (c .before .if3 .left))
+    let a = c .before .before .before .before .before .args in
+    let f = c .before .find-stop .ensures in
+    rw (le-ltb _ _ (c .before .before .before .if1 .left), c .before .before .if2 .left, sym (f .0))
+    (unread-stopped (a .context) (a .source .now) _ _ (f .0) (f .1))
 
 pub unread-spec : {M : Type 1} → statement M
 unread-spec =
@@ -66,6 +60,5 @@ unread-spec =
     cast-t14
     returns-2
     find-stop-requires
-    returns-3
     cast-t15
-    returns-4)
+    returns-3)

@@ -20,27 +20,30 @@ abbrev μ-loop : tie.MeasureT-loop
 loop-holds : tie.Need-loop-holds Inv-loop μ-loop
 loop-holds c = counted-none _ _ (c .before .pre .1)
 
-quiet-run-requires : tie.Need-quiet-run-requires Inv-loop μ-loop
-quiet-run-requires c κs = search needs
+quote-of-requires : tie.Need-quote-of-requires Inv-loop μ-loop
+quote-of-requires c κs = search needs
+
+quiet-end-requires : tie.Need-quiet-end-requires Inv-loop μ-loop
+quiet-end-requires c κs = search needs
 
 -- The run is counted.
-run-counted : (c : tie.After-quiet-run Inv-loop μ-loop) →
-    let a = c .before .before .before .args in
-    let l = c .before .loop in
-    let end = c .quiet-run .result in
+run-counted : (c : tie.After-quiet-end Inv-loop μ-loop) →
+    let a = c .before .before .before .before .args in
+    let l = c .before .before .loop in
+    let end = c .quiet-end .result in
     Counted (a .mode) (a .s .now) end (l .count + (end - l .at)) × Loud (a .mode) (a .s .now) end
 run-counted c =
-    let l = c .before .loop in
-    let m = run-moves _ _ (l .at) (c .quiet-run .result) (l .inv .sound) (c .quiet-run .ensures) in
+    let l = c .before .before .loop in
+    let m = run-moves _ _ (l .at) (c .quiet-end .result) (l .inv .sound) (rw (c .before .quote-of .ensures) at (c .quiet-end .ensures)) in
     let there = m .0 .sound .there in
     (counted-on (l .inv) (m .0) (simp (length-take, length-drop) (omega arith)), m .1)
 
 sub-count : tie.Need-sub-count Inv-loop μ-loop
-sub-count c = omega (arith, c .quiet-run .ensures)
+sub-count c = omega (arith, c .quiet-end .ensures)
 
 add-count : tie.Need-add-count Inv-loop μ-loop
 add-count c =
-    let a = c .before .before .before .args in omega (arith, run-counted c .0 .all, escape-six (a .mode) (a .s .now))
+    let a = c .before .before .before .before .args in omega (arith, run-counted c .0 .all, escape-six (a .mode) (a .s .now))
 
 returns : tie.Need-returns Inv-loop μ-loop
 returns c = counted-end (c .if1 .taken) (run-counted (c .before) .0)
@@ -53,8 +56,8 @@ source-length-requires c κs = search needs
 
 -- What stands at the end of the run is passed.
 special-passed : (c : tie.After-source-length Inv-loop μ-loop) →
-    let a = c .before .before .before .before .before .before .args in
-    let end = c .before .before .before .quiet-run .result in
+    let a = c .before .before .before .before .before .before .before .args in
+    let end = c .before .before .before .quiet-end .result in
     let next = end + c .source-length .result in
     Moves (a .mode) (a .s .now) end (textOf (c .before .special-at .result) (take (next - end) (drop end (a .s .now)))) next × (end < next)
 special-passed c =
@@ -78,9 +81,9 @@ text-length-requires c κs = search needs
 
 -- What is written for it is counted.
 special-counted : (c : tie.After-text-length Inv-loop μ-loop) →
-    let a = c .before .before .before .before .before .before .before .before .args in
-    let l = c .before .before .before .before .before .before .loop in
-    let end = c .before .before .before .before .before .quiet-run .result in
+    let a = c .before .before .before .before .before .before .before .before .before .args in
+    let l = c .before .before .before .before .before .before .before .loop in
+    let end = c .before .before .before .before .before .quiet-end .result in
     Counted (a .mode) (a .s .now) (end + c .before .before .source-length .result) (l .count + (end - l .at) + c .text-length .result)
 special-counted c =
     counted-on (run-counted (c .before .before .before .before .before) .0) (special-passed (c .before .before) .0)
@@ -88,13 +91,13 @@ special-counted c =
 
 add-count-2 : tie.Need-add-count-2 Inv-loop μ-loop
 add-count-2 c =
-    let a = c .before .before .before .before .before .before .before .before .args in
+    let a = c .before .before .before .before .before .before .before .before .before .args in
     omega (arith, special-counted c .all, escape-six (a .mode) (a .s .now))
 
 loop-less : tie.Need-loop-less Inv-loop μ-loop
 loop-less c =
     let w = special-passed (c .before .before) in
-    omega (arith, w .1, w .0 .sound .there, c .before .before .before .before .before .quiet-run .ensures)
+    omega (arith, w .1, w .0 .sound .there, c .before .before .before .before .before .quiet-end .ensures)
 
 loop-again : tie.Need-loop-again Inv-loop μ-loop
 loop-again c = special-counted c
@@ -106,7 +109,8 @@ escaped-length-spec =
     Inv-loop
     μ-loop
     loop-holds
-    quiet-run-requires
+    quote-of-requires
+    quiet-end-requires
     sub-count
     add-count
     returns

@@ -19,22 +19,27 @@ abbrev μ-loop : tie.MeasureT-loop
 loop-holds : tie.Need-loop-holds Inv-loop μ-loop
 loop-holds c = written-none _ _ _ (c .before .before .pre .0)
 
-quiet-run-requires : tie.Need-quiet-run-requires Inv-loop μ-loop
-quiet-run-requires c κs = search needs
+quote-of-requires : tie.Need-quote-of-requires Inv-loop μ-loop
+quote-of-requires c κs = search needs
+
+quiet-end-requires : tie.Need-quiet-end-requires Inv-loop μ-loop
+quiet-end-requires c κs = search needs
 
 -- The run is passed.
-run-passed : (c : tie.After-quiet-run Inv-loop μ-loop) →
-    let a = c .before .before .before .before .args in
-    let at = c .before .loop .at in
-    let end = c .quiet-run .result in
+run-passed : (c : tie.After-quiet-end Inv-loop μ-loop) →
+    let a = c .before .before .before .before .before .args in
+    let at = c .before .before .loop .at in
+    let end = c .quiet-end .result in
     Moves (a .mode) (a .s .now) at (take (end - at) (drop at (a .s .now))) end × Loud (a .mode) (a .s .now) end
-run-passed c = run-moves _ _ (c .before .loop .at) (c .quiet-run .result) (c .before .loop .inv .counted .sound) (c .quiet-run .ensures)
+run-passed c =
+    let l = c .before .before .loop in
+    run-moves _ _ (l .at) (c .quiet-end .result) (l .inv .counted .sound) (rw (c .before .quote-of .ensures) at (c .quiet-end .ensures))
 
 sub-copy : tie.Need-sub-copy Inv-loop μ-loop
-sub-copy c = omega (arith, c .quiet-run .ensures)
+sub-copy c = omega (arith, c .quiet-end .ensures)
 
 part-copy-start : tie.Need-part-copy-start Inv-loop μ-loop
-part-copy-start c = let w = c .quiet-run .ensures in search needs
+part-copy-start c = let w = c .quiet-end .ensures in search needs
 
 part-copy-end : tie.Need-part-copy-end Inv-loop μ-loop
 part-copy-end c = let w = run-passed c .0 .sound .there in search needs
@@ -44,12 +49,12 @@ copy-requires c κs = search needs
 
 -- The run is written.
 run-written : (c : tie.After-slice-known2 Inv-loop μ-loop) →
-    let a = c .before .before .before .before .before .before .before .before .before .args in
-    Written (a .mode) (a .s .now) (a .out .now) (c .before .before .before .before .before .quiet-run .result) (c .before .before .copy .last .1 .0)
+    let a = c .before .before .before .before .before .before .before .before .before .before .args in
+    Written (a .mode) (a .s .now) (a .out .now) (c .before .before .before .before .before .quiet-end .result) (c .before .before .copy .last .1 .0)
     (c .before .before .copy .result)
 run-written c =
-    written-on (c .before .before .before .before .before .before .before .before .before .pre .1)
-    (c .before .before .before .before .before .before .loop .inv) (run-passed (c .before .before .before .before .before) .0)
+    written-on (c .before .before .before .before .before .before .before .before .before .before .pre .1)
+    (c .before .before .before .before .before .before .before .loop .inv) (run-passed (c .before .before .before .before .before) .0)
     (c .before .before .copy .ensures)
 
 same-length : tie.Need-same-length Inv-loop μ-loop
@@ -66,8 +71,8 @@ source-length-requires c κs = search needs
 
 -- What stands at the end of the run is passed.
 special-passed : (c : tie.After-source-length Inv-loop μ-loop) →
-    let a = c .before .before .before .before .before .before .before .before .before .before .before .before .args in
-    let end = c .before .before .before .before .before .before .before .before .quiet-run .result in
+    let a = c .before .before .before .before .before .before .before .before .before .before .before .before .before .args in
+    let end = c .before .before .before .before .before .before .before .before .quiet-end .result in
     let next = end + c .source-length .result in
     Moves (a .mode) (a .s .now) end (textOf (c .before .special-at .result) (take (next - end) (drop end (a .s .now)))) next × (end < next)
 special-passed c =
@@ -92,13 +97,13 @@ put-special-requires c κs = search needs
 loop-less : tie.Need-loop-less Inv-loop μ-loop
 loop-less c =
     let w = special-passed (c .before .before .before .before .before) in
-    let e = c .before .before .before .before .before .before .before .before .before .before .before .before .before .quiet-run .ensures in
-    omega (arith, w .1, w .0 .sound .there)
+    let d = c .before .before .before .before .before .before .before .before in
+    omega (arith, w .1, w .0 .sound .there, d .before .before .before .before .before .quiet-end .ensures)
 
 loop-again : tie.Need-loop-again Inv-loop μ-loop
 loop-again c =
     let d = c .before .before .before .before .before .before .before .before in
-    let p = d .before .before .before .before .before .before .before .before .before .pre in
+    let p = d .before .before .before .before .before .before .before .before .before .before .pre in
     written-on (p .1) (run-written d) (special-passed (c .before .before .before .before .before) .0)
     (c .before .before .put-special .ensures)
 
@@ -109,7 +114,8 @@ write-escaped-spec =
     Inv-loop
     μ-loop
     loop-holds
-    quiet-run-requires
+    quote-of-requires
+    quiet-end-requires
     sub-copy
     part-copy-start
     part-copy-end
