@@ -30,6 +30,10 @@ abbrev pub writtenWith : Context → List ℕ → ℕ → Reading
 writtenWith context s answer =
     if eqb answer done || eqb answer context-end then decode builtin context (covered context s) else reading [] []
 
+-- The answers of a whole source.
+abbrev pub OneOfSix : ℕ → Type 0
+OneOfSix a = (a ≡ too-long) ⊎ ((a ≡ room-asked) ⊎ OneOf a)
+
 -- Rooms of so many bytes and numbers.
 module _ (context : Context) (s : List ℕ) (text errors : ℕ) where
   -- 3.
@@ -90,10 +94,8 @@ module _ (context : Context) (s : List ℕ) (text errors : ℕ) where
       (λ short room. (λ e. absurd (other _ _ one (inl refl) e), λ e. absurd (other _ _ one (inr refl) e), λ x y. (short, room, refl)))
 
   -- No other answer is given.
-  pub one-of-six : (answerOf context s text errors ≡ too-long) ⊎ ((answerOf context s text errors ≡ room-asked) ⊎ OneOf (answerOf context s text errors))
-  one-of-six =
-      answer-cases (λ (a : ℕ). (a ≡ too-long) ⊎ ((a ≡ room-asked) ⊎ OneOf a)) (λ h. inl refl) (λ short h. inr (inl refl))
-      (λ short room. inr (inr (stops-with context s)))
+  pub one-of-six : OneOfSix (answerOf context s text errors)
+  one-of-six = answer-cases OneOfSix (λ h. inl refl) (λ short h. inr (inl refl)) (λ short room. inr (inr (stops-with context s)))
 
   -- A source with another answer is not too long, has its room, and stops so.
   pub stopped-for : (a : ℕ) → answerOf context s text errors ≡ a → (a ≡ too-long → ⊥) → (a ≡ room-asked → ⊥)
@@ -154,7 +156,7 @@ module _ (room : ℕ) (context : Context) (s text errors : List ℕ) {first : De
         numbers-of = rw (e, laid .none);
       }
     where
-      named : (a : ℕ) → (a ≡ too-long) ⊎ ((a ≡ room-asked) ⊎ OneOf a) → eqb a done || eqb a context-end ≡ false
+      named : (a : ℕ) → OneOfSix a → eqb a done || eqb a context-end ≡ false
           → (if eqb a too-long || eqb a room-asked then 0 else stopOf context s .place) ≡ placeNamed a (stopOf context s)
       named a (inl e) g = rw e
       named a (inr (inl e)) g = rw e

@@ -66,16 +66,21 @@ meet-codes-requires c κs =
 there : (c : tie.After-meet-codes Inv-loop μ-loop) →
     let piece = c .before .before .before in
     let run = piece .before .before in
+    let turn = run .before .before in
     let size = piece .piece-at .result .size in
-    (0 < size) × (run .before .before .loop .at + run .text-run .result + size ≤ length (run .before .before .before .before .before .before .before .before .args .s .now))
+    (0 < size) × (turn .loop .at + run .text-run .result + size ≤ length (turn .before .before .before .before .before .before .args .s .now))
 there c =
     let piece = c .before .before .before in
     let run = piece .before .before in
-    next-there (run .before .before .loop .inv) (run .text-run .ensures) (run .before .loop-test .taken) (run .before .before .before .before .before .before .before .before .pre .1)
-    (piece .before .if1 .left) (pieceOf (piece .piece-at .result)) (piece .piece-at .ensures)
+    let turn = run .before .before in
+    next-there (turn .loop .inv) (run .text-run .ensures) (run .before .loop-test .taken)
+    (turn .before .before .before .before .before .before .pre .1) (piece .before .if1 .left) (pieceOf (piece .piece-at .result))
+    (piece .piece-at .ensures)
 
 add-at : tie.Need-add-at Inv-loop μ-loop
-add-at c = omega (arith, there (c .before), c .before .before .before .before .before .before .before .before .before .before .before .before .before .before .pre .2)
+add-at c =
+    let turn = c .before .before .before .before .before .before .before .before in
+    omega (arith, there (c .before), turn .before .before .before .before .before .before .pre .2)
 
 loop-less : tie.Need-loop-less Inv-loop μ-loop
 loop-less c = omega (arith, there (c .before))
@@ -84,7 +89,8 @@ loop-again : tie.Need-loop-again Inv-loop μ-loop
 loop-again c =
     let piece = c .before .before .before .before in
     let run = piece .before .before in
-    next-on (run .before .before .loop .inv) (run .text-run .ensures) (run .before .loop-test .taken) (run .before .before .before .before .before .before .before .before .pre .1)
+    let turn = run .before .before in
+    next-on (turn .loop .inv) (run .text-run .ensures) (run .before .loop-test .taken) (turn .before .before .before .before .before .before .pre .1)
     (piece .before .if1 .left) (pieceOf (piece .piece-at .result)) (piece .piece-at .ensures)
     (c .before .before .meet-text .ensures) (c .before .meet-codes .ensures)
 

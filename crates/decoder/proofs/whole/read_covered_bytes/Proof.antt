@@ -39,7 +39,8 @@ returns : tie.Need-returns
 returns c =
     let d = c .before .before .before .before .before .before .before in
     let a = d .before .before .before .before .before .before .before .before in
-    reads-of _ (omega (arith, wrote-few laid-fours (a .args .context) (a .args .s .now) (a .pre .0) (d .decode-pieces-bytes .ensures))) (c .end-named .ensures) (d .decode-pieces-bytes .ensures)
+    let w = d .decode-pieces-bytes .ensures in
+    reads-of _ (omega (arith, wrote-few laid-fours (a .args .context) (a .args .s .now) (a .pre .0) w)) (c .end-named .ensures) w
 
 pub read-covered-bytes-spec : {M : Type 1} → statement M
 read-covered-bytes-spec =

@@ -38,7 +38,9 @@ returns c =
     feeds-nothing (end-refused _ _ _ _ (d .refusal .ensures) refl (c .before .if1 .taken)) (c .refused .ensures)
 
 -- The end is not refused.
-goes-on : (c : tie.Else1) → let a = c .before .before .before .before .before .before .args in NotRefused (a .self) 0 (length (a .text .now)) (length (a .errors .now))
+goes-on : (c : tie.Else1) →
+    let a = c .before .before .before .before .before .before .args in
+    NotRefused (a .self) 0 (length (a .text .now)) (length (a .errors .now))
 goes-on c = not-refused _ _ _ _ (c .before .refusal .ensures) (c .if1 .left)
 
 cast-t17 : tie.Need-cast-t17

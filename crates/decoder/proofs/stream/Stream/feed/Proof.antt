@@ -36,7 +36,8 @@ returns c =
 
 -- The chunk is not refused.
 goes-on : (c : tie.Else1) →
-    let a = c .before .before .before .before .before .before .before .args in NotRefused (a .self) (length (a .chunk .now)) (length (a .text .now)) (length (a .errors .now))
+    let a = c .before .before .before .before .before .before .before .args in
+    NotRefused (a .self) (length (a .chunk .now)) (length (a .text .now)) (length (a .errors .now))
 goes-on c = not-refused _ _ _ _ (c .before .refusal .ensures) (c .if1 .left)
 
 slice-aggregate-walk : tie.Need-slice-aggregate-walk
