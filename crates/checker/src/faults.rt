@@ -41,7 +41,7 @@ pub(crate) fn find_fault(context: Context, s: &[u8]) -> Fault
     ensures { λ r. ⌜ (r .answer ≡ stopOf context (now (s .entry)) .answer) × (r .place ≡ stopOf context (now (s .entry)) .place) ⌝ }
 {
     let mut at: usize = 0;
-    while at < s.len() {
+    loop {
         let from = quiet_run(context, s, at);
         if from == s.len() {
             return Fault {
@@ -63,9 +63,5 @@ pub(crate) fn find_fault(context: Context, s: &[u8]) -> Fault
             };
         }
         at = from + len;
-    }
-    Fault {
-        answer: 0,
-        place: at,
     }
 }

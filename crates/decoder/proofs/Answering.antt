@@ -34,6 +34,13 @@ writtenWith context s answer =
 abbrev pub OneOfSix : ℕ → Type 0
 OneOfSix a = (a ≡ too-long) ⊎ ((a ≡ room-asked) ⊎ OneOf a)
 
+-- A source stops with neither 3 nor 9.
+stop-other : {a : ℕ} → OneOf a → (a ≡ too-long → ⊥) × (a ≡ room-asked → ⊥)
+stop-other (inl k) = (λ e. omega arith, λ e. omega arith)
+stop-other (inr (inl k)) = (λ e. omega arith, λ e. omega arith)
+stop-other (inr (inr (inl k))) = (λ e. omega arith, λ e. omega arith)
+stop-other (inr (inr (inr k))) = (λ e. omega arith, λ e. omega arith)
+
 -- Rooms of so many bytes and numbers.
 module _ (context : Context) (s : List ℕ) (text errors : ℕ) where
   -- 3.
@@ -63,16 +70,6 @@ module _ (context : Context) (s : List ℕ) (text errors : ℕ) where
       (a ≡ too-long → 65536 < length s) × (a ≡ room-asked → (length s ≤ 65536) × NoRoomFor s text errors)
       × ((a ≡ too-long → ⊥) → (a ≡ room-asked → ⊥) → (length s ≤ 65536) × RoomFor s text errors × (stopOf context s .answer ≡ a))
 
-  other : (a n : ℕ) → OneOf a → (n ≡ too-long) ⊎ (n ≡ room-asked) → a ≡ n → ⊥
-  other a n (inl k) (inl h) e = omega arith
-  other a n (inl k) (inr h) e = omega arith
-  other a n (inr (inl k)) (inl h) e = omega arith
-  other a n (inr (inl k)) (inr h) e = omega arith
-  other a n (inr (inr (inl k))) (inl h) e = omega arith
-  other a n (inr (inr (inl k))) (inr h) e = omega arith
-  other a n (inr (inr (inr k))) (inl h) e = omega arith
-  other a n (inr (inr (inr k))) (inr h) e = omega arith
-
   -- What holds of each answer where it is given holds of the answer.
   answer-cases : (P : ℕ → Type 0) → (65536 < length s → P too-long) → (length s ≤ 65536 → NoRoomFor s text errors → P room-asked)
       → (length s ≤ 65536 → RoomFor s text errors → P (stopOf context s .answer)) → P (answerOf context s text errors)
@@ -88,10 +85,10 @@ module _ (context : Context) (s : List ℕ) (text errors : ℕ) where
 
   pub answered-for : For (answerOf context s text errors)
   answered-for =
-      let one = stops-with context s in
+      let stopped = stop-other (stops-with context s) in
       answer-cases For (λ h. (λ e. h, λ e. absurd (omega arith), λ x y. absurd (x refl)))
       (λ short h. (λ e. absurd (omega arith), λ e. (short, h), λ x y. absurd (y refl)))
-      (λ short room. (λ e. absurd (other _ _ one (inl refl) e), λ e. absurd (other _ _ one (inr refl) e), λ x y. (short, room, refl)))
+      (λ short room. (λ e. absurd (stopped .0 e), λ e. absurd (stopped .1 e), λ x y. (short, room, refl)))
 
   -- No other answer is given.
   pub one-of-six : OneOfSix (answerOf context s text errors)
@@ -186,8 +183,8 @@ module _ (room : ℕ) (context : Context) (s text errors : List ℕ) {first : De
     -- That part is there, and has its rooms.
     pub part-fits : (first .place ≤ length s) × (first .place ≤ 65536) × (first .place + 64 ≤ length text) × (2 * first .place + 8 ≤ room)
     part-fits =
-        let k = stopped-for context s (length text) room (first .answer) (sym answers) (λ e. ⊎-elim (λ z. omega arith) (λ z. omega arith) either)
-        (λ e. ⊎-elim (λ z. omega arith) (λ z. omega arith) either) in
+        let stopped = stop-other {a = first .answer} (⊎-elim (λ e. inl e) (λ e. inr (inr (inr e))) either) in
+        let k = stopped-for context s (length text) room (first .answer) (sym answers) (stopped .0) (stopped .1) in
         let h = stop-place context s in
         (omega (arith, stops-there, h), omega (arith, stops-there, h, k), omega (arith, stops-there, h, k), omega (arith, stops-there, h, k))
 

@@ -3,7 +3,6 @@ pub mod PieceLaws
 pub mod NumberLaws
 pub mod NameLaws
 pub mod Quiet
-pub mod Stopping
 pub mod Writing
 pub mod Walk
 pub mod Answering

@@ -1,7 +1,7 @@
 // Where a source stops, and why.
 ghost use mathlib.Core.Path.{_≡_};
 ghost use Rattle.standard.specs.Contexts.{endByte};
-ghost use Rattle.standard.specs.Reading.{callsFor, answerTo, sizeOf, stopOf};
+ghost use Rattle.standard.specs.Reading.{callsFor, stopOf};
 use standard::Context;
 use standard::characters::CharRead;
 use standard::characters::read_char;
@@ -42,49 +42,32 @@ pub(crate) fn calls_for(context: Context, c: u32) -> u32
     0
 }
 
-// The answer that what is read calls for: 1 where it is no character.
-fn answer_to(context: Context, read: CharRead) -> u32
-    ensures { λ r. ⌜ r ≡ answerTo (callsFor context) read ⌝ }
-{
-    match read {
-        CharRead::Char { value, len: _ } => calls_for(context, value),
-        CharRead::Incomplete(_) => 1,
-        CharRead::Illformed(_) => 1,
-        CharRead::End => 0,
-    }
-}
-
-// How many bytes stand before what is read ends.
-fn size_of(read: CharRead) -> usize
-    ensures { λ r. ⌜ r ≡ sizeOf read ⌝ }
-{
-    match read {
-        CharRead::Char { value: _, len } => len,
-        CharRead::Incomplete(len) => len,
-        CharRead::Illformed(len) => len,
-        CharRead::End => 0,
-    }
-}
-
 // Where a source stops: runs of ordinary bytes are passed at once, and each other character is read.
 pub(crate) fn find_stop(context: Context, s: &[u8]) -> Stopped
     ensures { λ r. ⌜ (r .answer ≡ stopOf context (now (s .entry)) .answer) × (r .place ≡ stopOf context (now (s .entry)) .place) ⌝ }
 {
     let mut at: usize = 0;
-    while at < s.len() {
+    loop {
         let from = runs::ordinary_end(end_of(context), s, at);
-        let read = read_char(&s[from..]);
-        let answer = answer_to(context, read);
+        if s.len() <= from {
+            return Stopped {
+                answer: 0,
+                place: from,
+            };
+        }
+        let CharRead::Char { value, len } = read_char(&s[from..]) else {
+            return Stopped {
+                answer: 1,
+                place: from,
+            };
+        };
+        let answer = calls_for(context, value);
         if answer != 0 {
             return Stopped {
                 answer,
                 place: from,
             };
         }
-        at = from + size_of(read);
-    }
-    Stopped {
-        answer: 0,
-        place: at,
+        at = from + len;
     }
 }

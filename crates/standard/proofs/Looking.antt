@@ -16,7 +16,7 @@ use Rattle.standard.specs.Answers.{done}
 use Rattle.standard.specs.Reading.{answerTo, sizeOf, stops, stopFrom}
 use Rattle.standard.proofs.Ascii.{stop-run}
 use Rattle.standard.proofs.Stops.{stop-read}
-use Rattle.standard.proofs.Utf8.{read-length, incomplete-length, illformed-length, end-length}
+use Rattle.standard.proofs.Utf8.{read-length, incomplete-length, illformed-length}
 
 -- What is read has no more bytes than there are.
 size-there : (s : List ℕ) → sizeOf (readChar s) ≤ length s
@@ -27,16 +27,6 @@ size-there s = go (readChar s) refl
     go (Incomplete n) e = omega (arith, incomplete-length s n e)
     go (Illformed n) e = omega (arith, illformed-length s n e)
     go End e = omega arith
-
--- A character that calls for nothing has a byte.
-pub size-some : (calls : ℕ → ℕ) (s : List ℕ) → 0 < length s → answerTo calls (readChar s) ≡ done → 0 < sizeOf (readChar s)
-size-some calls s h e = go (readChar s) refl e
-  where
-    go : (r : CharRead) → readChar s ≡ r → answerTo calls r ≡ done → 0 < sizeOf r
-    go (Char c n) f g = omega (arith, read-length s c n f)
-    go (Incomplete n) f g = absurd (omega arith)
-    go (Illformed n) f g = absurd (omega arith)
-    go End f g = absurd (omega (arith, end-length s f))
 
 -- The source stops where what is left from at on does.
 pub record Looking (calls : ℕ → ℕ) (s : List ℕ) (at : ℕ) : Type 0 where

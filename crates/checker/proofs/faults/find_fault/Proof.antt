@@ -21,14 +21,14 @@ loop-holds : tie.Need-loop-holds Inv-loop μ-loop
 loop-holds c = looking-start
 
 quiet-run-requires : tie.Need-quiet-run-requires Inv-loop μ-loop
-quiet-run-requires c κs = c .before .loop .inv .there
+quiet-run-requires c κs = c .loop .inv .there
 
 -- A run is passed.
 passed : (c : tie.After-quiet-run Inv-loop μ-loop) →
-    let a = c .before .before .before .before .args in Looking (callsFor (a .context)) (a .s .now) (c .quiet-run .result)
+    let a = c .before .before .before .args in Looking (callsFor (a .context)) (a .s .now) (c .quiet-run .result)
 passed c =
     let e = c .quiet-run .ensures in
-    looking-run (c .before .before .before .before .args .context) (c .before .before .loop .inv) _ (e .0) (e .1) (e .2)
+    looking-run (c .before .before .before .args .context) (c .before .loop .inv) _ (e .0) (e .1) (e .2)
 
 returns : tie.Need-returns Inv-loop μ-loop
 returns c = stop-is done _ (looking-end (passed (c .before)) (omega (arith, c .if1 .taken)))
@@ -92,10 +92,7 @@ loop-less c =
           (c .before .called-for .ensures),
     )
 
-returns-4 : tie.Need-returns-4 Inv-loop μ-loop
-returns-4 c = stop-is done _ (looking-end (c .before .loop .inv) (omega arith))
-
 pub find-fault-spec : {M : Type 1} → statement M
 find-fault-spec = tie.close
     (tie.spec Inv-loop μ-loop loop-holds quiet-run-requires returns sub-read-char part-read-char-start part-read-char-end read-char-requires
-    enum-known-value returns-2 called-for-requires returns-3 add-at loop-less loop-again returns-4)
+    enum-known-value returns-2 called-for-requires returns-3 add-at loop-less loop-again)

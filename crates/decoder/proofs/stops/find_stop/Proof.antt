@@ -1,15 +1,15 @@
 -- The invariant: the source stops where what is left from `at` on does.
 use Prim.Native.Nat.{_-_}
-use mathlib.Core.Path.{sym, ap}
 use native.Mathlib.Omega.{arith}
 use lib.ListN.{length}
+use borrow.Author.Needs.{needs}
 use Rattle.standard.specs.Contexts.{endByte}
-use Rattle.standard.specs.Reading.{callsFor, Stop}
+use Rattle.standard.specs.Answers.{done}
+use Rattle.standard.specs.Reading.{callsFor}
 use Rattle.standard.proofs.Looking.{Looking, looking-start, looking-run, looking-end}
+use Rattle.standard.proofs.Faults.{stop-is, fault-other, fault-called, fault-none, fault-size}
 use Rattle.runs.specs.Kinds.{ordinary}
 use Rattle.decoder.proofs.Quiet.{ordinary-is}
-use Rattle.decoder.proofs.Stopping.{turn-stops, turn-on, turn-passes}
-use borrow.Author.Needs.{needs}
 use Rattle.decoder.proofs.stops.find_stop.Statement.{statement}
 use Rattle.decoder.proofs.stops.find_stop.Tie as tie
 
@@ -30,17 +30,20 @@ ordinary-end-requires c κs = search needs
 
 -- A run of ordinary bytes is passed.
 passed : (c : tie.After-ordinary-end Inv-loop μ-loop) →
-    let a = c .before .before .before .before .before .args in Looking (callsFor (a .context)) (a .s .now) (c .ordinary-end .result)
+    let a = c .before .before .before .before .args in Looking (callsFor (a .context)) (a .s .now) (c .ordinary-end .result)
 passed c =
-    let context = c .before .before .before .before .before .args .context in
-    looking-run (c .before .before .before .loop .inv) (ordinary (endByte context)) (ordinary-is context)
+    let context = c .before .before .before .before .args .context in
+    looking-run (c .before .before .loop .inv) (ordinary (endByte context)) (ordinary-is context)
     (rw (c .before .end-of .ensures) at (c .ordinary-end .ensures))
 
+returns : tie.Need-returns Inv-loop μ-loop
+returns c = stop-is done _ (looking-end (passed (c .before)) (c .if1 .taken))
+
 sub-read-char : tie.Need-sub-read-char Inv-loop μ-loop
-sub-read-char c = omega (arith, passed c .there)
+sub-read-char c = omega arith
 
 part-read-char-start : tie.Need-part-read-char-start Inv-loop μ-loop
-part-read-char-start c = omega (arith, passed c .there)
+part-read-char-start c = omega arith
 
 part-read-char-end : tie.Need-part-read-char-end Inv-loop μ-loop
 part-read-char-end c = search needs
@@ -48,41 +51,45 @@ part-read-char-end c = search needs
 read-char-requires : tie.Need-read-char-requires Inv-loop μ-loop
 read-char-requires c κs = search needs
 
-answer-to-requires : tie.Need-answer-to-requires Inv-loop μ-loop
-answer-to-requires c κs = search needs
+enum-known-value : tie.Need-enum-known-value Inv-loop μ-loop
+enum-known-value c = search needs
 
-returns : tie.Need-returns Inv-loop μ-loop
-returns c =
-    let run = c .before .before .before .before in
-    let context = run .before .before .before .before .before .args .context in
-    turn-stops context (passed run) (c .before .before .read-char .ensures) (c .before .answer-to .ensures) (c .if1 .taken)
+returns-2 : tie.Need-returns-2 Inv-loop μ-loop
+returns-2 c =
+    let i = c .before .before .before in
+    fault-other (passed (i .before)) (i .if1 .left) (c .before .read-char .ensures) (c .match .keys2)
 
-size-of-requires : tie.Need-size-of-requires Inv-loop μ-loop
-size-of-requires c κs = search needs
+calls-for-requires : tie.Need-calls-for-requires Inv-loop μ-loop
+calls-for-requires c κs = search needs
+
+returns-3 : tie.Need-returns-3 Inv-loop μ-loop
+returns-3 c =
+    let char = c .before .before .before in
+    let read = char .before .before in
+    let i = read .before .before in
+    fault-called (passed (i .before)) (i .if1 .left) (read .read-char .ensures) (char .value .given .1) (c .before .calls-for .ensures) (c .if2 .taken)
 
 loop-again : tie.Need-loop-again Inv-loop μ-loop
 loop-again c =
-    let d = c .before .before .before in
-    let run = d .before .before in
-    let context = run .before .before .before .before .before .args .context in
-    turn-on context (passed run) (d .read-char .ensures) (c .before .before .answer-to .ensures) (c .before .if1 .left) (c .size-of .ensures)
+    let char = c .before .before .before in
+    let read = char .before .before in
+    let i = read .before .before in
+    fault-none (passed (i .before)) (i .if1 .left) (read .read-char .ensures) (char .value .given .1) (c .before .calls-for .ensures) (c .if2 .left)
 
 add-at : tie.Need-add-at Inv-loop μ-loop
 add-at c = omega (arith, loop-again c .there)
 
 loop-less : tie.Need-loop-less Inv-loop μ-loop
 loop-less c =
-    let d = c .before .before .before in
-    let run = d .before .before in
-    let context = run .before .before .before .before .before .args .context in
-    let turn = turn-passes context (passed run) (d .read-char .ensures) (c .before .before .answer-to .ensures) (c .before .if1 .left)
-    (c .size-of .ensures) (run .before .before .loop-test .taken) (omega (arith, run .ordinary-end .ensures)) in
-    omega (arith, turn, loop-again c .there)
-
-returns-2 : tie.Need-returns-2 Inv-loop μ-loop
-returns-2 c =
-    let e = looking-end (c .before .loop .inv) (omega arith) in
-    (sym (ap (λ (x : Stop). x .answer) e), sym (ap (λ (x : Stop). x .place) e))
+    let char = c .before .before .before in
+    let read = char .before .before in
+    let i = read .before .before in
+    omega (
+      arith,
+      loop-again c .there,
+      i .before .ordinary-end .ensures,
+      fault-size (passed (i .before)) (i .if1 .left) (read .read-char .ensures) (char .value .given .1) (c .before .calls-for .ensures),
+    )
 
 pub find-stop-spec : {M : Type 1} → statement M
 find-stop-spec =
@@ -93,14 +100,15 @@ find-stop-spec =
     loop-holds
     end-of-requires
     ordinary-end-requires
+    returns
     sub-read-char
     part-read-char-start
     part-read-char-end
     read-char-requires
-    answer-to-requires
-    returns
-    size-of-requires
+    enum-known-value
+    returns-2
+    calls-for-requires
+    returns-3
     add-at
     loop-less
-    loop-again
-    returns-2)
+    loop-again)
