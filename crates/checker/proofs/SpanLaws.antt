@@ -2,17 +2,12 @@
 use Prim.Native.Nat.{ℕ, _+_, _-_, _*_, _≤_, _<_}
 use mathlib.Core.Path.{_≡_, refl, sym, _∙_, subst}
 use mathlib.Core.List.{List}
-use mathlib.Core.Bool.{Bool, true, false, _||_, _&&_}
+use mathlib.Core.Bool.{Bool, true, false, _&&_}
 use mathlib.Core.Logic.{⊎-elim}
 use native.Mathlib.Omega.{arith}
 use lib.ListN.{length, getD}
-use Rattle.lists.proofs.Choice.{no-way, below?, and-true}
+use Rattle.lists.proofs.Choice.{below?, and-true}
 use Rattle.checker.specs.Spans.{quiet, Quiet, alike, Alike, AlikeIf, unitRow, UnitRows, PlainRows}
-
--- Where neither of two tests holds, each fails.
-pub or-none : (t u : Bool) → t || u ≡ false → (t ≡ false) × (u ≡ false)
-or-none true u e = no-way e
-or-none false u e = (refl, e)
 
 -- Whether the i-th byte from at on is quiet, and whether the i-th bytes are alike.
 abbrev pub quietAt : (end : ℕ) (s : List ℕ) (at : ℕ) → ℕ → Bool

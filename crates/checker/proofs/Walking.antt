@@ -4,21 +4,21 @@ use Prim.Native.Char.{code}
 use mathlib.Core.Path.{_≡_, refl, sym, _∙_, ap}
 use mathlib.Core.List.{List, [], _∷_}
 use mathlib.Core.Bool.{Bool, true, false, not, _||_, _&&_}
-use mathlib.Core.Logic.{_≢_, inl, inr, ⊎-elim}
+use mathlib.Core.Logic.{_≢_}
 use native.Mathlib.Omega.{arith}
 use lib.Dec.{ltb, eqb}
 use lib.ListN.{length, getD, drop, length-drop}
 use lib.Seq.{drop-drop, drop-cons}
 use borrow.Author.Tests.{ltb-true, eqb-true, eq-eqb, not-true}
 use Rattle.lists.specs.Notation.{between}
-use Rattle.lists.proofs.Choice.{and-true, or-true}
+use Rattle.lists.proofs.Choice.{and-true}
 use Rattle.standard.specs.declared.Context.{Context}
 use Rattle.standard.specs.Classes.{characterCode}
 use Rattle.standard.specs.Errors.{listed, numbers, placed}
 use Rattle.standard.specs.Names.{Name}
 use Rattle.standard.specs.Pieces as standard
 use Rattle.standard.specs.Reading.{pieces, joined}
-use Rattle.standard.proofs.Ascii.{read-ascii, Plain, plain-printable, plain-blank}
+use Rattle.standard.proofs.Ascii.{read-ascii, Plain, plain-standing}
 use Rattle.standard.proofs.Bounds.{pieces-unfold}
 use Rattle.standard.proofs.PieceSize.{piece-size}
 use Rattle.standard.proofs.Joining.{numbers-append}
@@ -145,12 +145,8 @@ walk-byte-row {s = s} {at} w byte p =
 -- A byte that is alike stands for itself without an error.
 alike-plain : (b c : ℕ) → alike b c ≡ true → Plain b × (b ≡ c)
 alike-plain b c e =
-    let printable = between 0x20 0x7E b && not (eqb b (code "&")) in
-    let w = and-true (printable || eqb b 0xA || eqb b 0x9) (eqb b c) e in (
-      ⊎-elim (λ k. ⊎-elim (plain-printable b) (λ l. plain-blank b (inl (eqb-true b 0xA l))) (or-true printable (eqb b 0xA) k))
-          (λ k. plain-blank b (inr (eqb-true b 0x9 k))) (or-true (printable || eqb b 0xA) (eqb b 0x9) (w .0)),
-      eqb-true b c (w .1),
-    )
+    let w = and-true (between 0x20 0x7E b && not (eqb b (code "&")) || eqb b 0xA || eqb b 0x9) (eqb b c) e in
+    (plain-standing b (w .0), eqb-true b c (w .1))
 
 -- Bytes that the text has too are met, each as a piece.
 pub walk-run : {names : List Name} {context : Context} {s : List ℕ} {end : ℕ} {text errors : List ℕ} {whole : Joint → Type 0} {at t : ℕ} {e : Met}

@@ -2,7 +2,7 @@ pub mod Contents
 pub mod PieceLaws
 pub mod NumberLaws
 pub mod NameLaws
-pub mod Quiet
+pub mod Plain
 pub mod Writing
 pub mod Walk
 pub mod Answering

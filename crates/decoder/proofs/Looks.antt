@@ -16,13 +16,12 @@ use Rattle.standard.specs.declared.characters.CharRead.the-variants.{Char}
 use Rattle.standard.specs.Classes.{alphanumeric}
 use Rattle.standard.specs.Numbers.{digitOf, isDigit}
 use Rattle.standard.specs.Utf8.{octets, encode, readChar}
-use Rattle.standard.proofs.Ascii.{Plain, read-ascii}
+use Rattle.standard.proofs.Ascii.{read-ascii, Plain, plain-standing}
 use Rattle.standard.proofs.Back.{read-back}
 use Rattle.standard.proofs.Computing.{computing}
 use Rattle.standard.proofs.Lists.{below, below-at}
 use Rattle.standard.proofs.Utf8.{read-length}
 use Rattle.runs.specs.Kinds.{standing}
-use Rattle.decoder.proofs.Quiet.{standing-is}
 
 -- A character c of n bytes is at the front of s.
 pub data Looks : List ℕ → ℕ → ℕ → Type 0 where
@@ -146,7 +145,7 @@ reference-ascii =
 -- Such a byte stands for itself without an error.
 pub reference-plain : (b : ℕ) → afterAmpersand b ≡ true → Plain b
 unfolding stands
-reference-plain b e = standing-is b (rw e at (below-at 0x80 stands b all-stand (passes-ascii afterAmpersand reference-ascii b e)))
+reference-plain b e = plain-standing b (rw e at (below-at 0x80 stands b all-stand (passes-ascii afterAmpersand reference-ascii b e)))
 
 -- `#` and that letter stand for themselves.
 pub x-plain : (letter : ℕ) → is-x letter ≡ true → All Plain (code "#" ∷ letter ∷ [])

@@ -51,7 +51,7 @@ use Rattle.decoder.proofs.PieceLaws.{character-read}
 use Rattle.decoder.proofs.Room.{room-only}
 use Rattle.decoder.proofs.Looks.{Looks, ascii, wide, looks, passes-ascii, alphanumeric-ascii}
 use Rattle.standard.proofs.Stops.{calls-none}
-use Rattle.decoder.proofs.Quiet.{plain-is, plain-calls}
+use Rattle.decoder.proofs.Plain.{plain-is, plain-calls}
 use Rattle.decoder.proofs.Unfolding.{all-append}
 use Rattle.decoder.proofs.Room.{room-so}
 use Rattle.decoder.proofs.Walks.{walk-more, walk-char}

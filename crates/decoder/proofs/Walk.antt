@@ -31,7 +31,7 @@ use Rattle.standard.specs.Contexts.{endByte}
 use Rattle.runs.specs.Kinds.{plain}
 use Rattle.decoder.specs.Skims.{PlainRun}
 use Rattle.decoder.specs.Writing.{WroteBy, Wrote, readFrom, Advances}
-use Rattle.decoder.proofs.Quiet.{plain-is}
+use Rattle.decoder.proofs.Plain.{plain-is}
 use Rattle.decoder.proofs.Writing.{by-none, by-join, wrote-text, wrote-join}
 
 -- A piece that is read at at.

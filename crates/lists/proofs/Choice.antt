@@ -44,6 +44,11 @@ pub or-true : (t u : Bool) → t || u ≡ true → (t ≡ true) ⊎ (u ≡ true)
 or-true true u e = inl refl
 or-true false u e = inr e
 
+-- Where neither of two tests holds, each fails.
+pub or-none : (t u : Bool) → t || u ≡ false → (t ≡ false) × (u ≡ false)
+or-none true u e = no-way e
+or-none false u e = (refl, e)
+
 -- A number in a range passes its test.
 pub inside-between : (a b c : ℕ) → a ≤ c → c ≤ b → between a b c ≡ true
 inside-between a b c p q = rw (le-leb a c p) (le-leb c b q)

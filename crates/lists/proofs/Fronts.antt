@@ -49,6 +49,15 @@ front-induction p P none more (b ∷ s) = go (p b) refl (front-induction p P non
     go true e rest = more b (front p s) s e rest
     go false e rest = none (b ∷ s)
 
+-- Each element of the front passes.
+pub front-each : (p : ℕ → Bool) (s : List ℕ) (i : ℕ) → i < length (front p s) → p (getD s i 0) ≡ true
+front-each p = front-induction p (λ u s. (i : ℕ) → i < length u → p (getD s i 0) ≡ true) (λ s i h. absurd (omega arith)) more
+  where
+    more : (b : ℕ) (u s : List ℕ) → p b ≡ true → ((i : ℕ) → i < length u → p (getD s i 0) ≡ true)
+        → (i : ℕ) → i < length (b ∷ u) → p (getD (b ∷ s) i 0) ≡ true
+    more b u s e rest zero h = e
+    more b u s e rest (suc i) h = rest i (omega arith)
+
 -- The elements u from `at` to next pass: the front at `at` is u and then the front at next.
 pub record Passed (p : ℕ → Bool) (s : List ℕ) (at : ℕ) (u : List ℕ) (next : ℕ) : Type 0 where
   pub next-is : next ≡ at + length u

@@ -4,50 +4,28 @@ use Prim.Native.Char.{code}
 use mathlib.Core.Path.{_≡_, refl, _∙_, ap}
 use mathlib.Core.List.{List, [], _∷_}
 use mathlib.Core.Bool.{Bool, true, false, not, _||_, _&&_}
-use mathlib.Core.Logic.{_⊎_, inl, inr}
+use mathlib.Core.Logic.{_⊎_, inl, inr, ⊎-elim}
 use native.Mathlib.Omega.{arith}
 use lib.Dec.{eqb}
 use lib.ListN.{length, take, drop}
-use borrow.Author.Tests.{lt-ltb, eq-eqb, eqb-true, not-true}
-use Rattle.lists.specs.Notation.{between, front, every}
-use Rattle.lists.proofs.Choice.{and-true, between-true}
-use Rattle.lists.proofs.Fronts.{front-induction}
+use borrow.Author.Tests.{lt-ltb, eqb-true, not-true}
+use Rattle.lists.specs.Notation.{between, every}
+use Rattle.lists.proofs.Choice.{and-true, or-true, between-true}
 use Rattle.standard.specs.declared.Context.{Context}
 use Rattle.standard.specs.declared.characters.CharRead.the-variants.{Char}
 use Rattle.standard.specs.Utf8.{tails, afterLead, readChar}
 use Rattle.standard.specs.Errors.{no-error, placed}
 use Rattle.standard.specs.Classes.{characterCode}
-use Rattle.standard.specs.Answers.{done}
 use Rattle.standard.specs.Names.{Name}
 use Rattle.standard.specs.Pieces.{piece, pieceAt}
 use Rattle.standard.proofs.Computing.{computing}
 use Rattle.standard.proofs.Lists.{below, below-at}
-use Rattle.standard.specs.Reading.{stopFrom, piecesFrom, pieces, Reading, reading, _⊕_, joined}
+use Rattle.standard.specs.Reading.{piecesFrom, pieces, Reading, reading, _⊕_, joined}
 
 -- An ASCII byte is a character of its own.
 pub read-ascii : (b : ℕ) (s : List ℕ) → b < 0x80 → readChar (b ∷ s) ≡ Char b 1
 unfolding readChar afterLead tails
 read-ascii b s h = rw (lt-ltb b 0x80 h)
-
--- An ASCII byte that calls for nothing does not stop reading.
-stop-ascii : (calls : ℕ → ℕ) (b : ℕ) (s : List ℕ) (place : ℕ) → b < 0x80 → calls b ≡ done
-    → stopFrom calls 0 place (b ∷ s) ≡ stopFrom calls 0 (suc place) s
-unfolding stopFrom
-stop-ascii calls b s place h e = rw (read-ascii b s h, eq-eqb (calls b) done e)
-
--- A run of them does not.
-pub stop-run : (calls : ℕ → ℕ) (p : ℕ → Bool) → ((b : ℕ) → p b ≡ true → (b < 0x80) × (calls b ≡ done)) → (s : List ℕ) (place : ℕ)
-    → stopFrom calls 0 place s ≡ stopFrom calls 0 (place + length (front p s)) (drop (length (front p s)) s)
-stop-run calls p quiet =
-    front-induction p (λ u s. (place : ℕ) → stopFrom calls 0 place s ≡ stopFrom calls 0 (place + length u) (drop (length u) s))
-    (λ s place. ap (λ (n : ℕ). stopFrom calls 0 n s) (omega arith)) more
-  where
-    more : (b : ℕ) (u s : List ℕ) → p b ≡ true
-        → ((place : ℕ) → stopFrom calls 0 place s ≡ stopFrom calls 0 (place + length u) (drop (length u) s))
-        → (place : ℕ) → stopFrom calls 0 place (b ∷ s) ≡ stopFrom calls 0 (place + suc (length u)) (drop (length u) s)
-    more b u s e rest place =
-        stop-ascii calls b s place (quiet b e .0) (quiet b e .1) ∙ rest (suc place)
-        ∙ ap (λ (n : ℕ). stopFrom calls 0 n (drop (length u) s)) (omega arith)
 
 -- A byte that stands for itself without an error: ASCII, no CR, no `&`, and of no class that has an error.
 abbrev pub Plain : ℕ → Type 0
@@ -62,7 +40,7 @@ unfolding computing below printable
 all-printable = refl
 
 -- So all of it but `&` stands for itself.
-pub plain-printable : (b : ℕ) → between 0x20 0x7E b && not (eqb b (code "&")) ≡ true → Plain b
+plain-printable : (b : ℕ) → between 0x20 0x7E b && not (eqb b (code "&")) ≡ true → Plain b
 unfolding printable
 plain-printable b e =
     let u = and-true (between 0x20 0x7E b) (not (eqb b (code "&"))) e in
@@ -72,10 +50,17 @@ plain-printable b e =
     (omega arith, not-true (eqb b (code "\r")) (w .0), not-true (eqb b (code "&")) (u .1), eqb-true (characterCode b) no-error (w .1))
 
 -- LF and tab do too.
-pub plain-blank : (b : ℕ) → (b ≡ 0xA) ⊎ (b ≡ 0x9) → Plain b
+plain-blank : (b : ℕ) → (b ≡ 0xA) ⊎ (b ≡ 0x9) → Plain b
 unfolding computing
 plain-blank b (inl e) = rw e (omega arith, refl, refl, refl)
 plain-blank b (inr e) = rw e (omega arith, refl, refl, refl)
+
+-- So each of them stands for itself.
+pub plain-standing : (b : ℕ) → between 0x20 0x7E b && not (eqb b (code "&")) || eqb b 0xA || eqb b 0x9 ≡ true → Plain b
+plain-standing b e =
+    let printable = between 0x20 0x7E b && not (eqb b (code "&")) in
+    ⊎-elim (λ f. ⊎-elim (plain-printable b) (λ g. plain-blank b (inl (eqb-true b 0xA g))) (or-true printable (eqb b 0xA) f))
+    (λ g. plain-blank b (inr (eqb-true b 0x9 g))) (or-true (printable || eqb b 0xA) (eqb b 0x9) e)
 
 -- Such a byte is a piece of its own.
 plain-piece : (names : List Name) (context : Context) (b : ℕ) (s : List ℕ) → Plain b → pieceAt names context (b ∷ s) ≡ piece 1 (b ∷ []) []

@@ -1,7 +1,7 @@
 -- The digits at the front of some bytes: how many there are, and what they make of the bytes after `&#` or `&#x`.
 use Prim.Native.Nat.{ℕ, suc, _+_, _*_, _≤_, _<_, min}
 use Prim.Native.Char.{code}
-use mathlib.Core.Path.{_≡_, refl, sym}
+use mathlib.Core.Path.{_≡_, refl, sym, ap}
 use mathlib.Core.List.{List, [], _∷_}
 use native.Mathlib.Omega.{arith}
 use lib.Dec.{eqb}
@@ -18,6 +18,10 @@ use Rattle.standard.proofs.Stopped.{number-stopped}
 abbrev pub digitsFrom : (base : ℕ) → List ℕ → (value end : ℕ) → ℕ × ℕ
 digitsFrom base s value end =
     let ds = front (isDigit base) (drop end s) in (end + length ds, min (numberFrom base value ds) 0x110000)
+
+-- The two results, from the pair of them.
+pub both : {a b : ℕ × ℕ} → a ≡ b → (b .0 ≡ a .0) × (b .1 ≡ a .1)
+both e = (sym (ap (λ (w : ℕ × ℕ). w .0) e), sym (ap (λ (w : ℕ × ℕ). w .1) e))
 
 module _ (base : ℕ) (s : List ℕ) (value end : ℕ) where
   -- Where no digit is left, the place and the number stay.

@@ -1,20 +1,20 @@
 -- Where a source stops, found character by character.
-use Prim.Native.Nat.{ℕ, _+_, _≤_, _<_}
+use Prim.Native.Nat.{ℕ, zero, suc, _+_, _≤_, _<_}
 use mathlib.Core.Path.{_≡_, refl, _∙_, ap}
 use mathlib.Core.List.{List}
 use mathlib.Core.Bool.{Bool, true}
 use native.Mathlib.Omega.{arith}
-use lib.ListN.{length, drop, length-drop, drop-of-length-le}
-use lib.Seq.{drop-drop}
+use lib.ListN.{length, getD, drop, length-drop, drop-of-length-le}
+use lib.Seq.{drop-cons, drop-drop, getD-drop}
 use borrow.Author.Tests.{eq-eqb, ne-eqb}
 use Rattle.lists.specs.Notation.{front}
-use Rattle.lists.proofs.Fronts.{front-length}
+use Rattle.lists.proofs.Fronts.{front-length, front-each}
 use Rattle.standard.specs.declared.characters.CharRead.{CharRead}
 use Rattle.standard.specs.declared.characters.CharRead.the-variants.{Char, Incomplete, Illformed, End}
 use Rattle.standard.specs.Utf8.{readChar}
 use Rattle.standard.specs.Answers.{done}
 use Rattle.standard.specs.Reading.{answerTo, sizeOf, stops, stopFrom}
-use Rattle.standard.proofs.Ascii.{stop-run}
+use Rattle.standard.proofs.Ascii.{read-ascii}
 use Rattle.standard.proofs.Stops.{stop-read}
 use Rattle.standard.proofs.Utf8.{read-length, incomplete-length, illformed-length}
 
@@ -56,13 +56,21 @@ module _ {calls : ℕ → ℕ} {s : List ℕ} {at : ℕ} (l : Looking calls s at
   unfolding stopFrom
   looking-end e = l .same ∙ rw (drop-of-length-le s e)
 
-  -- A run of ASCII bytes of a test p, of which none calls for an answer, is passed.
-  pub looking-run : (p : ℕ → Bool) → ((b : ℕ) → p b ≡ true → (b < 0x80) × (calls b ≡ done)) → {from : ℕ}
-      → from ≡ at + length (front p (drop at s)) → Looking calls s from
-  looking-run p quiet is = rw is
-      (record {
-        there = omega (arith, l .there, front-length p (drop at s), length-drop at s);
-        same =
-            l .same ∙ stop-run calls p quiet (drop at s) at
-            ∙ ap (stopFrom calls 0 (at + length (front p (drop at s)))) (drop-drop (length (front p (drop at s))) at s);
-      })
+-- ASCII bytes of which none calls for an answer are passed, given a test that tells so.
+module _ {calls : ℕ → ℕ} {s : List ℕ} {at : ℕ} (l : Looking calls s at) (p : ℕ → Bool)
+    (quiet : (b : ℕ) → p b ≡ true → (b < 0x80) × (calls b ≡ done)) where
+  pub looking-span : (n : ℕ) → at + n ≤ length s → ((i : ℕ) → i < n → p (getD s (at + i) 0) ≡ true) → Looking calls s (at + n)
+  looking-span zero there each = let same : at + 0 ≡ at = omega arith in rw same l
+  looking-span (suc n) there each =
+      let b : ℕ = getD s (at + n) 0 in
+      let w = quiet b (each n (omega arith)) in
+      let read : readChar (drop (at + n) s) ≡ Char b 1 = rw (drop-cons s (at + n) 0 (omega arith)) (read-ascii b (drop (suc (at + n)) s) (w .0)) in
+      let later : at + n + 1 ≡ at + suc n = omega arith in
+      rw later at (rw read at (looking-on (looking-span n (omega arith) (λ i j. each i (omega arith))) (ap (answerTo calls) read ∙ w .1)))
+
+  -- So is the longest run of them.
+  pub looking-run : {from : ℕ} → from ≡ at + length (front p (drop at s)) → Looking calls s from
+  looking-run is =
+      rw is
+      (looking-span (length (front p (drop at s))) (omega (arith, l .there, front-length p (drop at s), length-drop at s))
+      (λ i h. rw (getD-drop at s i 0) at (front-each p (drop at s) i h)))

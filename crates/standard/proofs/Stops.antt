@@ -2,13 +2,14 @@
 use Prim.Native.Nat.{ℕ, zero, suc, _+_, _-_, _≤_, _<_}
 use mathlib.Core.Path.{_≡_, refl, _∙_, ap, ap₂}
 use mathlib.Core.List.{List, [], _∷_}
+use mathlib.Core.Bool.{true, not, _&&_}
 use mathlib.Core.Logic.{_⊎_, inl, inr}
 use native.Mathlib.Omega.{arith}
 use lib.Dec.{eqb}
 use lib.ListN.{length, drop}
-use borrow.Author.Tests.{eq-eqb, eqb-false, ne-eqb}
-use Rattle.lists.specs.Notation.{if_then_else_}
-use Rattle.lists.proofs.Choice.{if-both}
+use borrow.Author.Tests.{eq-eqb, eqb-false, ne-eqb, not-true}
+use Rattle.lists.specs.Notation.{if_then_else_, between}
+use Rattle.lists.proofs.Choice.{if-both, and-true, between-true}
 use Rattle.standard.specs.declared.Context.{Context}
 use Rattle.standard.specs.declared.characters.CharRead.{CharRead}
 use Rattle.standard.specs.declared.characters.CharRead.the-variants.{Char, Incomplete, Illformed, End}
@@ -94,6 +95,13 @@ module _ (context : Context) (c : ℕ) (some : c ≡ 0 → ⊥) where
 
   pub calls-none : (c ≡ endByte context → ⊥) → callsFor context c ≡ done
   calls-none e = rw (ne-eqb c 0 some, ne-eqb c (endByte context) e)
+
+-- ASCII but NUL and the end calls for nothing.
+pub ascii-calls : (context : Context) (b : ℕ) → between 0x1 0x7F b && not (eqb b (endByte context)) ≡ true → (b < 0x80) × (callsFor context b ≡ done)
+ascii-calls context b e =
+    let w = and-true (between 0x1 0x7F b) (not (eqb b (endByte context))) e in
+    let h = between-true 0x1 0x7F b (w .0) in
+    (omega arith, calls-none context b (omega arith) (eqb-false b (endByte context) (not-true (eqb b (endByte context)) (w .1))))
 
 -- A source stops with one of four answers.
 abbrev pub OneOf : ℕ → Type 0

@@ -1,13 +1,16 @@
 -- The invariant: the source stops where what is left from `at` on does.
-use Prim.Native.Nat.{_-_}
+use Prim.Native.Nat.{_+_, _-_}
+use mathlib.Core.Path.{_≡_}
 use native.Mathlib.Omega.{arith}
 use lib.ListN.{length}
 use borrow.Author.Needs.{needs}
+use Rattle.standard.specs.Contexts.{endByte}
 use Rattle.standard.specs.Answers.{done}
 use Rattle.standard.specs.Reading.{callsFor}
-use Rattle.standard.proofs.Looking.{Looking, looking-start, looking-end}
+use Rattle.standard.proofs.Stops.{ascii-calls}
+use Rattle.standard.proofs.Looking.{Looking, looking-start, looking-span, looking-end}
 use Rattle.standard.proofs.Faults.{stop-is, fault-other, fault-called, fault-none, fault-size}
-use Rattle.checker.proofs.FaultLaws.{looking-run}
+use Rattle.checker.specs.Spans.{quiet}
 use Rattle.checker.proofs.faults.find_fault.Statement.{statement}
 use Rattle.checker.proofs.faults.find_fault.Tie as tie
 
@@ -27,8 +30,12 @@ quiet-run-requires c κs = c .loop .inv .there
 passed : (c : tie.After-quiet-run Inv-loop μ-loop) →
     let a = c .before .before .before .args in Looking (callsFor (a .context)) (a .s .now) (c .quiet-run .result)
 passed c =
+    let context = c .before .before .before .args .context in
     let e = c .quiet-run .ensures in
-    looking-run (c .before .before .before .args .context) (c .before .loop .inv) _ (e .0) (e .1) (e .2)
+    let to = c .quiet-run .result in
+    let at = c .before .loop .at in
+    let all : at + (to - at) ≡ to = omega (arith, e .0) in
+    rw all at (looking-span (c .before .loop .inv) (quiet (endByte context)) (ascii-calls context) (to - at) (omega (arith, e .0, e .1)) (e .2))
 
 returns : tie.Need-returns Inv-loop μ-loop
 returns c = stop-is done _ (looking-end (passed (c .before)) (omega (arith, c .if1 .taken)))

@@ -1,12 +1,12 @@
 -- The invariant: what digitsFrom gives from here on, after the number so far, is what it gives from the start.
 use Prim.Native.Nat.{ℕ, _≤_, _-_, _<_}
-use mathlib.Core.Path.{_≡_, refl, sym, _∙_, ap}
+use mathlib.Core.Path.{_≡_, refl, _∙_, ap}
 use mathlib.Core.List.{List}
 use native.Mathlib.Omega.{arith}
 use lib.ListN.{length, getD}
 use borrow.Author.Needs.{needs}
 use Rattle.standard.specs.Numbers.{digitOf}
-use Rattle.standard.proofs.Digits.{digitsFrom, digits-end, digits-stop, digits-more}
+use Rattle.standard.proofs.Digits.{digitsFrom, both, digits-end, digits-stop, digits-more}
 use Rattle.checker.proofs.Peeks.{peek-there}
 use Rattle.checker.proofs.references.digits_from.Statement.{statement}
 use Rattle.checker.proofs.references.digits_from.Tie as tie
@@ -26,10 +26,6 @@ peek-requires c κs = search needs
 
 digit-of-requires : tie.Need-digit-of-requires Inv-loop μ-loop
 digit-of-requires c κs = search needs
-
--- The two results, from the pair of them.
-both : {a b : ℕ × ℕ} → a ≡ b → (b .0 ≡ a .0) × (b .1 ≡ a .1)
-both e = (sym (ap (λ (w : ℕ × ℕ). w .0) e), sym (ap (λ (w : ℕ × ℕ). w .1) e))
 
 -- The digit that was read.
 seen-as : (s : List ℕ) (at : ℕ) {seen digit : ℕ} → at < length s → seen ≡ getD s at 256 → digit ≡ digitOf seen → digit ≡ digitOf (getD s at 0)

@@ -6,10 +6,9 @@ use lib.Dec.{eqb}
 use lib.ListN.{getD}
 use borrow.Author.Needs.{needs}
 use borrow.Author.Tests.{eqb-true, not-false}
-use Rattle.lists.proofs.Choice.{no-way}
+use Rattle.lists.proofs.Choice.{no-way, or-none}
 use Rattle.checker.proofs.Meetings.{meets-known}
 use Rattle.checker.proofs.Peeks.{peek-there, peek-within}
-use Rattle.checker.proofs.SpanLaws.{or-none}
 use Rattle.checker.proofs.rows.byte_row.Statement.{statement}
 use Rattle.checker.proofs.rows.byte_row.Tie as tie
 

@@ -3,8 +3,7 @@ use mathlib.Core.Bool.{not}
 use lib.Dec.{eqb}
 use borrow.Author.Needs.{needs}
 use borrow.Author.Tests.{eqb-true, not-false}
-use Rattle.lists.proofs.Choice.{no-way}
-use Rattle.checker.proofs.SpanLaws.{or-none}
+use Rattle.lists.proofs.Choice.{no-way, or-none}
 use Rattle.checker.proofs.rows.plain_row.Statement.{statement}
 use Rattle.checker.proofs.rows.plain_row.Tie as tie
 

@@ -1,10 +1,10 @@
 -- do_numeric reads what digitsFrom says: at each turn it is what digitsFrom gives from here on, after the number so far.
-use Prim.Native.Nat.{ℕ, _≤_, _-_}
-use mathlib.Core.Path.{_≡_, refl, sym, _∙_, ap}
+use Prim.Native.Nat.{_≤_, _-_}
+use mathlib.Core.Path.{_≡_, refl, _∙_}
 use native.Mathlib.Omega.{arith}
 use borrow.Author.Needs.{needs}
 use lib.ListN.{length}
-use Rattle.standard.proofs.Digits.{digitsFrom, digits-end, digits-stop, digits-more}
+use Rattle.standard.proofs.Digits.{digitsFrom, both, digits-end, digits-stop, digits-more}
 use Rattle.decoder.proofs.numbers.do_numeric.Statement.{statement}
 use Rattle.decoder.proofs.numbers.do_numeric.Tie as tie
 
@@ -23,10 +23,6 @@ shared-slice-read-digit-of c = omega arith
 
 digit-of-requires : tie.Need-digit-of-requires Inv-loop μ-loop
 digit-of-requires c κs = search needs
-
--- The two results, from the pair of them.
-both : {a b : ℕ × ℕ} → a ≡ b → (b .0 ≡ a .0) × (b .1 ≡ a .1)
-both e = (sym (ap (λ (w : ℕ × ℕ). w .0) e), sym (ap (λ (w : ℕ × ℕ). w .1) e))
 
 returns : tie.Need-returns Inv-loop μ-loop
 returns c =

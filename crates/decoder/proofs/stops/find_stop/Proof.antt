@@ -6,10 +6,10 @@ use borrow.Author.Needs.{needs}
 use Rattle.standard.specs.Contexts.{endByte}
 use Rattle.standard.specs.Answers.{done}
 use Rattle.standard.specs.Reading.{callsFor}
+use Rattle.standard.proofs.Stops.{ascii-calls}
 use Rattle.standard.proofs.Looking.{Looking, looking-start, looking-run, looking-end}
 use Rattle.standard.proofs.Faults.{stop-is, fault-other, fault-called, fault-none, fault-size}
 use Rattle.runs.specs.Kinds.{ordinary}
-use Rattle.decoder.proofs.Quiet.{ordinary-is}
 use Rattle.decoder.proofs.stops.find_stop.Statement.{statement}
 use Rattle.decoder.proofs.stops.find_stop.Tie as tie
 
@@ -33,7 +33,7 @@ passed : (c : tie.After-ordinary-end Inv-loop μ-loop) →
     let a = c .before .before .before .before .args in Looking (callsFor (a .context)) (a .s .now) (c .ordinary-end .result)
 passed c =
     let context = c .before .before .before .before .args .context in
-    looking-run (c .before .before .loop .inv) (ordinary (endByte context)) (ordinary-is context)
+    looking-run (c .before .before .loop .inv) (ordinary (endByte context)) (ascii-calls context)
     (rw (c .before .end-of .ensures) at (c .ordinary-end .ensures))
 
 returns : tie.Need-returns Inv-loop μ-loop
