@@ -7,11 +7,11 @@ use mathlib.Core.Logic.{⊎-elim}
 use native.Mathlib.Omega.{arith}
 use lib.ListN.{length, getD}
 use Rattle.lists.proofs.Choice.{below?, and-true}
-use Rattle.checker.specs.Spans.{quiet, Quiet, alike, Alike, AlikeIf, unitRow, UnitRows, PlainRows}
+use Rattle.checker.specs.Spans.{ordinary, Ordinary, alike, Alike, AlikeIf, unitRow, UnitRows, PlainRows}
 
--- Whether the i-th byte from at on is quiet, and whether the i-th bytes are alike.
-abbrev pub quietAt : (end : ℕ) (s : List ℕ) (at : ℕ) → ℕ → Bool
-quietAt end s at i = quiet end (getD s (at + i) 0)
+-- Whether the i-th byte from at on is ordinary, and whether the i-th bytes are alike.
+abbrev pub ordinaryAt : (end : ℕ) (s : List ℕ) (at : ℕ) → ℕ → Bool
+ordinaryAt end s at i = ordinary end (getD s (at + i) 0)
 
 abbrev pub alikeAt : (s : List ℕ) (at : ℕ) (text : List ℕ) (t : ℕ) → ℕ → Bool
 alikeAt s at text t i = alike (getD s (at + i) 0) (getD text (t + i) 0)
@@ -43,25 +43,25 @@ each-more p n first e =
 pub each-tested : (p : ℕ → Bool) (n : ℕ) {all t : Bool} → t ≡ p n → (all ≡ true → Each p n) → all && t ≡ true → Each p (n + 1)
 each-tested p n {all} {t} e first z = let w = and-true all t z in each-more p n (first (w .0)) (sym e ∙ w .1)
 
--- Bytes that are quiet up to at, and n more.
-pub quiet-join : (end : ℕ) (s : List ℕ) (from at n : ℕ) → from ≤ at → Quiet end s from (at - from) → Quiet end s at n
-    → Quiet end s from (at + n - from)
-quiet-join end s from at n h first later =
+-- Bytes that are ordinary up to at, and n more.
+pub ordinary-join : (end : ℕ) (s : List ℕ) (from at n : ℕ) → from ≤ at → Ordinary end s from (at - from) → Ordinary end s at n
+    → Ordinary end s from (at + n - from)
+ordinary-join end s from at n h first later =
     let all : at - from + n ≡ at + n - from = omega arith in
-    rw all at (each-join (quietAt end s from) (at - from) n first
+    rw all at (each-join (ordinaryAt end s from) (at - from) n first
     (λ j k. let there : at + j ≡ from + (at - from + j) = omega arith in rw there at (later j k)))
 
 -- The byte at at too.
-pub quiet-one : (end : ℕ) (s : List ℕ) (from at : ℕ) → from ≤ at → Quiet end s from (at - from) → quiet end (getD s at 0) ≡ true
-    → Quiet end s from (at + 1 - from)
-quiet-one end s from at h first e =
-    quiet-join end s from at 1 h first (λ i k. let here : at ≡ at + i = omega arith in rw here at e)
+pub ordinary-one : (end : ℕ) (s : List ℕ) (from at : ℕ) → from ≤ at → Ordinary end s from (at - from) → ordinary end (getD s at 0) ≡ true
+    → Ordinary end s from (at + 1 - from)
+ordinary-one end s from at h first e =
+    ordinary-join end s from at 1 h first (λ i k. let here : at ≡ at + i = omega arith in rw here at e)
 
 -- The bytes from there to a later place too.
-pub quiet-on : (end : ℕ) (s : List ℕ) (from at to : ℕ) → from ≤ at → at ≤ to → Quiet end s from (at - from) → Quiet end s at (to - at)
-    → Quiet end s from (to - from)
-quiet-on end s from at to h k first later =
-    let all : at + (to - at) ≡ to = omega arith in rw all at (quiet-join end s from at (to - at) h first later)
+pub ordinary-on : (end : ℕ) (s : List ℕ) (from at to : ℕ) → from ≤ at → at ≤ to → Ordinary end s from (at - from) → Ordinary end s at (to - at)
+    → Ordinary end s from (to - from)
+ordinary-on end s from at to h k first later =
+    let all : at + (to - at) ≡ to = omega arith in rw all at (ordinary-join end s from at (to - at) h first later)
 
 -- Bytes of which i are alike, and n more.
 pub alike-join : (s : List ℕ) (at : ℕ) (text : List ℕ) (t i n : ℕ) → Alike s at text t i → Alike s (at + i) text (t + i) n

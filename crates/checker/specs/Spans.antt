@@ -9,12 +9,12 @@ use lib.ListN.{length, getD}
 use Rattle.lists.specs.Notation.{between}
 
 -- A byte that is a character of its own and stops no reading: ASCII but NUL and the end.
-abbrev pub quiet : ℕ → ℕ → Bool
-quiet end b = between 0x1 0x7F b && not (eqb b end)
+abbrev pub ordinary : ℕ → ℕ → Bool
+ordinary end b = between 0x1 0x7F b && not (eqb b end)
 
--- The n bytes from at on are quiet.
-abbrev pub Quiet : (end : ℕ) (s : List ℕ) (at n : ℕ) → Type 0
-Quiet end s at n = (i : ℕ) → i < n → quiet end (getD s (at + i) 0) ≡ true
+-- The n bytes from at on are ordinary.
+abbrev pub Ordinary : (end : ℕ) (s : List ℕ) (at n : ℕ) → Type 0
+Ordinary end s at n = (i : ℕ) → i < n → ordinary end (getD s (at + i) 0) ≡ true
 
 -- An ASCII byte that stands for itself, with an error or without.
 abbrev pub lone : ℕ → Bool

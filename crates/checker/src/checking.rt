@@ -3,8 +3,8 @@ ghost use mathlib.Core.Path.{_≡_};
 ghost use Rattle.standard.specs.NameList.{builtin};
 ghost use Rattle.checker.specs.Transcript.{verdict, checked, checkedOf, checkedBytes};
 ghost use Rattle.checker.specs.Meeting.{lent};
-use crate::faults::find_fault;
 use crate::meeting::count;
+use crate::stops::find_stop;
 use crate::verdicts::judge;
 use standard::Context;
 use standard::table::builtin_names;
@@ -51,7 +51,7 @@ fn check_numbers(
     if count(errors, error_bytes) % 2 != 0 {
         return refused(10, 0);
     }
-    let fault = find_fault(context, source);
+    let fault = find_stop(context, source);
     let answer = fault.answer;
     let place = fault.place;
     let readable = (answer == 0) | (answer == 7);

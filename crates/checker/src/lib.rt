@@ -2,12 +2,12 @@
 mod blocks;
 mod checking;
 mod classes;
-mod faults;
 mod meeting;
 mod pieces;
 mod references;
 mod rows;
 mod spans;
+mod stops;
 mod verdicts;
 
 pub use checking::Checked;

@@ -7,47 +7,38 @@ ghost use Prim.Native.Nat.{_≤_, _+_, _-_};
 ghost use lib.ListN.{length};
 ghost use Rattle.standard.specs.Contexts.{endByte};
 ghost use Rattle.checker.specs.Spans as spec;
+use crate::stops::end_of;
 use standard::Context;
 
-// The byte before which a source ends.
-fn end_of(context: Context) -> u8
-    ensures { λ r. ⌜ r ≡ endByte context ⌝ }
-{
-    match context {
-        Context::Text => b'<',
-        Context::Attribute => b'"',
-    }
-}
-
 // A byte that is a character of its own and stops no reading, where a source ends before end.
-fn quiet(b: u8, end: u8) -> bool
-    ensures { λ r. ⌜ r ≡ spec.quiet end b ⌝ }
+fn ordinary(b: u8, end: u8) -> bool
+    ensures { λ r. ⌜ r ≡ spec.ordinary end b ⌝ }
 {
     (0x1 <= b) & (b <= 0x7F) & (b != end)
 }
 
-// Whether the 64 bytes from at on are quiet.
-fn quiet_block(s: &[u8], at: usize, end: u8) -> bool
+// Whether the 64 bytes from at on are ordinary.
+fn ordinary_block(s: &[u8], at: usize, end: u8) -> bool
     requires { ⌜ at + 64 ≤ length (now s) ⌝ }
-    ensures { λ r. ⌜ (r ≡ true → spec.Quiet end (now (s .entry)) at 64) ⌝ }
+    ensures { λ r. ⌜ (r ≡ true → spec.Ordinary end (now (s .entry)) at 64) ⌝ }
 {
     let mut all = true;
     let mut i: usize = 0;
     while i < 64 {
-        all = all & quiet(s[at + i], end);
+        all = all & ordinary(s[at + i], end);
         i += 1;
     }
     all
 }
 
-// The place up to which the bytes from `from` on are quiet, byte by byte.
-fn quiet_bytes(s: &[u8], from: usize, end: u8) -> usize
+// The place up to which the bytes from `from` on are ordinary, byte by byte.
+fn ordinary_bytes(s: &[u8], from: usize, end: u8) -> usize
     requires { ⌜ from ≤ length (now s) ⌝ }
-    ensures { λ r. ⌜ (from ≤ r) × (r ≤ length (now (s .entry))) × spec.Quiet end (now (s .entry)) from (r - from) ⌝ }
+    ensures { λ r. ⌜ (from ≤ r) × (r ≤ length (now (s .entry))) × spec.Ordinary end (now (s .entry)) from (r - from) ⌝ }
 {
     let mut at = from;
     while at < s.len() {
-        if !quiet(s[at], end) {
+        if !ordinary(s[at], end) {
             return at;
         }
         at += 1;
@@ -55,20 +46,20 @@ fn quiet_bytes(s: &[u8], from: usize, end: u8) -> usize
     at
 }
 
-// The same, in blocks as long as they are quiet.
-pub(crate) fn quiet_run(context: Context, s: &[u8], from: usize) -> usize
+// The same, in blocks as long as they are ordinary.
+pub(crate) fn ordinary_span(context: Context, s: &[u8], from: usize) -> usize
     requires { ⌜ from ≤ length (now s) ⌝ }
-    ensures { λ r. ⌜ (from ≤ r) × (r ≤ length (now (s .entry))) × spec.Quiet (endByte context) (now (s .entry)) from (r - from) ⌝ }
+    ensures { λ r. ⌜ (from ≤ r) × (r ≤ length (now (s .entry))) × spec.Ordinary (endByte context) (now (s .entry)) from (r - from) ⌝ }
 {
     let end = end_of(context);
     let mut at = from;
     while 64 <= s.len() - at {
-        if !quiet_block(s, at, end) {
-            return quiet_bytes(s, at, end);
+        if !ordinary_block(s, at, end) {
+            return ordinary_bytes(s, at, end);
         }
         at += 64;
     }
-    quiet_bytes(s, at, end)
+    ordinary_bytes(s, at, end)
 }
 
 // A byte that is a piece and its own text, without an error, and is the byte c too.

@@ -17,7 +17,7 @@ use Rattle.standard.specs.Answers.{done, too-long, context-end, room-asked}
 use Rattle.standard.specs.Errors.{numbers}
 use Rattle.standard.specs.NameList.{builtin}
 use Rattle.standard.specs.Reading.{stopOf, covered, Reading, reading, decode}
-use Rattle.decoder.specs.Writing.{WroteBy, unreadOf, endNamed, Reads}
+use Rattle.decoder.specs.Writing.{WroteBy, unreadOf, endNamed, ReadCovered}
 use Rattle.standard.proofs.Bounds.{text-fits, errors-fit}
 use Rattle.standard.proofs.Narrow.{builtin-narrow}
 use Rattle.standard.proofs.Joining.{numbers-length}
@@ -135,14 +135,14 @@ module _ {lay : List ℕ → List ℕ} (room : ℕ) (context : Context) (s text 
   answer-is d = ap (λ (x : Decoded). x .answer) (d .answered)
 
 -- From the answer before anything is written.
-module _ (room : ℕ) (context : Context) (s text errors : List ℕ) {first : Decoded}
-    (unread : first ≡ unreadOf context s (length text) room) where
-  answers : first .answer ≡ answerOf context s (length text) room
+module _ (room : ℕ) (context : Context) (s text errors : List ℕ) {stop : Decoded}
+    (unread : stop ≡ unreadOf context s (length text) room) where
+  answers : stop .answer ≡ answerOf context s (length text) room
   answers = ap (λ (x : Decoded). x .answer) unread
 
   -- Where the source is not readable nothing is written.
-  pub whole-unread : {width : ℕ} {lay : List ℕ → List ℕ} → Laying width lay → eqb (first .answer) done || eqb (first .answer) context-end ≡ false
-      → DecodesBy lay room context s text errors first text errors
+  pub whole-unread : {width : ℕ} {lay : List ℕ → List ℕ} → Laying width lay → eqb (stop .answer) done || eqb (stop .answer) context-end ≡ false
+      → DecodesBy lay room context s text errors stop text errors
   unfolding decodedOf writtenOf numbers
   whole-unread laid f =
       let g = rw answers at f in
@@ -162,18 +162,18 @@ module _ (room : ℕ) (context : Context) (s text errors : List ℕ) {first : De
       named a (inr (inr (inr (inr (inl e))))) g = rw e
       named a (inr (inr (inr (inr (inr e))))) g = no-way (rw e at g)
 
-  module _ (reads : eqb (first .answer) done || eqb (first .answer) context-end ≡ true) where
+  module _ (reads : eqb (stop .answer) done || eqb (stop .answer) context-end ≡ true) where
     -- Its answer is 0 or 7.
-    either : (first .answer ≡ done) ⊎ (first .answer ≡ context-end)
+    either : (stop .answer ≡ done) ⊎ (stop .answer ≡ context-end)
     either =
-        ⊎-map (eqb-true (first .answer) done) (eqb-true (first .answer) context-end)
-        (or-true (eqb (first .answer) done) (eqb (first .answer) context-end) reads)
+        ⊎-map (eqb-true (stop .answer) done) (eqb-true (stop .answer) context-end)
+        (or-true (eqb (stop .answer) done) (eqb (stop .answer) context-end) reads)
 
     -- It is read up to where it stops.
-    stops-there : first .place ≡ stopOf context s .place
+    stops-there : stop .place ≡ stopOf context s .place
     stops-there = ap (λ (x : Decoded). x .place) unread ∙ go either
       where
-        go : (first .answer ≡ done) ⊎ (first .answer ≡ context-end)
+        go : (stop .answer ≡ done) ⊎ (stop .answer ≡ context-end)
             → (if eqb (answerOf context s (length text) room) too-long || eqb (answerOf context s (length text) room) room-asked then 0
             else stopOf context s .place)
             ≡ stopOf context s .place
@@ -181,20 +181,20 @@ module _ (room : ℕ) (context : Context) (s text errors : List ℕ) {first : De
         go (inr e) = rw (sym answers ∙ e)
 
     -- That part is there, and has its rooms.
-    pub part-fits : (first .place ≤ length s) × (first .place ≤ 65536) × (first .place + 64 ≤ length text) × (2 * first .place + 8 ≤ room)
+    pub part-fits : (stop .place ≤ length s) × (stop .place ≤ 65536) × (stop .place + 64 ≤ length text) × (2 * stop .place + 8 ≤ room)
     part-fits =
-        let stopped = stop-other {a = first .answer} (⊎-elim (λ e. inl e) (λ e. inr (inr (inr e))) either) in
-        let k = stopped-for context s (length text) room (first .answer) (sym answers) (stopped .0) (stopped .1) in
+        let stopped = stop-other {a = stop .answer} (⊎-elim (λ e. inl e) (λ e. inr (inr (inr e))) either) in
+        let k = stopped-for context s (length text) room (stop .answer) (sym answers) (stopped .0) (stopped .1) in
         let h = stop-place context s in
         (omega (arith, stops-there, h), omega (arith, stops-there, h, k), omega (arith, stops-there, h, k), omega (arith, stops-there, h, k))
 
     -- It was read.
     pub whole-read : {lay : List ℕ → List ℕ} {r : Decoded} {text′ errors′ : List ℕ}
-        → Reads lay context (take (first .place) s) (first .answer) text errors r text′ errors′
+        → ReadCovered lay context (take (stop .place) s) (stop .answer) text errors r text′ errors′
         → DecodesBy lay room context s text errors r text′ errors′
     whole-read {lay} {r} {text′} {errors′} w = go either
       where
-        go : (first .answer ≡ done) ⊎ (first .answer ≡ context-end) → DecodesBy lay room context s text errors r text′ errors′
+        go : (stop .answer ≡ done) ⊎ (stop .answer ≡ context-end) → DecodesBy lay room context s text errors r text′ errors′
         go (inl e) = by-answer room context s text errors 0 (sym answers ∙ e) (w .answered ∙ rw (e, stops-there)) (w .texts ∙ rw stops-there)
             (w .numbers-of ∙ rw stops-there)
         go (inr e) = by-answer room context s text errors 7 (sym answers ∙ e)
@@ -205,7 +205,7 @@ module _ (room : ℕ) (context : Context) (s text errors : List ℕ) {first : De
 pub reads-of : {lay : List ℕ → List ℕ} {context : Context} {s : List ℕ} {answer place w e : ℕ} {text errors text′ errors′ : List ℕ}
     → (n : ℕ) → n ≡ length (decode builtin context s .errors) → place ≡ endNamed answer (length s)
     → WroteBy lay (decode builtin context s) text 0 text′ w errors 0 errors′ e
-    → Reads lay context s answer text errors (decoded answer w n place) text′ errors′
+    → ReadCovered lay context s answer text errors (decoded answer w n place) text′ errors′
 reads-of {context = context} {s} {w = w} n is place-is wrote =
     let f : w ≡ length (decode builtin context s .text) = omega (arith, wrote .texts .next-is) in
     record { answered = rw (f, is, place-is); texts = wrote .texts .new-is; numbers-of = wrote .numbers-of .new-is }

@@ -23,10 +23,11 @@ textRoom n = text-bound n + 64
 abbrev pub errorRoom : ℕ → ℕ
 errorRoom n = 2 * errors-bound n + 8
 
--- Rooms of so many text bytes and error numbers are what a source asks for, and aren't.
+-- Rooms of so many text bytes and error numbers are what a source asks for.
 abbrev pub RoomFor : (source : List ℕ) (text errors : ℕ) → Type 0
 RoomFor s text errors = (textRoom (length s) ≤ text) × (errorRoom (length s) ≤ errors)
 
+-- One of them is smaller.
 abbrev pub NoRoomFor : (source : List ℕ) (text errors : ℕ) → Type 0
 NoRoomFor s text errors = (text < textRoom (length s)) ⊎ (errors < errorRoom (length s))
 

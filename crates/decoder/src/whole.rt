@@ -6,7 +6,7 @@ ghost use Rattle.lists.specs.Bytes.{plainly, fours};
 ghost use Rattle.standard.specs.Names.{tableOf};
 ghost use Rattle.standard.specs.NameList.{builtin};
 ghost use Rattle.standard.specs.Reading.{decode};
-ghost use Rattle.decoder.specs.Writing.{WroteBy, Wrote, Advances, unreadOf, endNamed, Reads};
+ghost use Rattle.decoder.specs.Writing.{WroteBy, Wrote, Advances, unreadOf, endNamed, ReadCovered};
 ghost use Rattle.decoder.specs.Whole.{Decodes, DecodesBytes};
 use crate::pieces::piece_at;
 use crate::skimming::copy_run;
@@ -162,7 +162,7 @@ fn read_covered(
     answer: u32,
 ) -> Decoded
     requires { ⌜ (length (now s) ≤ 65536) × (length (now s) + 64 ≤ length (now text)) × (2 * length (now s) + 8 ≤ length (now errors)) ⌝ }
-    ensures { λ r. ⌜ Reads plainly context (now (s .entry)) answer (now (text .entry)) (now (errors .entry))
+    ensures { λ r. ⌜ ReadCovered plainly context (now (s .entry)) answer (now (text .entry)) (now (errors .entry))
         r (now (text .exit)) (now (errors .exit)) ⌝ }
 {
     let table = builtin_names();
@@ -184,7 +184,7 @@ fn read_covered_bytes(
     answer: u32,
 ) -> Decoded
     requires { ⌜ (length (now s) ≤ 65536) × (length (now s) + 64 ≤ length (now text)) × (4 * (2 * length (now s) + 8) ≤ length (now errors)) ⌝ }
-    ensures { λ r. ⌜ Reads fours context (now (s .entry)) answer (now (text .entry)) (now (errors .entry))
+    ensures { λ r. ⌜ ReadCovered fours context (now (s .entry)) answer (now (text .entry)) (now (errors .entry))
         r (now (text .exit)) (now (errors .exit)) ⌝ }
 {
     let table = builtin_names();
@@ -201,17 +201,17 @@ fn read_covered_bytes(
 pub fn decode_whole(context: Context, source: &[u8], text: &mut [u8], errors: &mut [u32]) -> Decoded
     ensures { λ r. ⌜ Decodes context (now (source .entry)) (now (text .entry)) (now (errors .entry)) r (now (text .exit)) (now (errors .exit)) ⌝ }
 {
-    let first = unread(context, source, text.len(), errors.len());
-    let readable = (first.answer == 0) | (first.answer == 7);
+    let stop = unread(context, source, text.len(), errors.len());
+    let readable = (stop.answer == 0) | (stop.answer == 7);
     if !readable {
-        return first;
+        return stop;
     }
     read_covered(
         context,
-        &source[..first.place as usize],
+        &source[..stop.place as usize],
         text,
         errors,
-        first.answer,
+        stop.answer,
     )
 }
 
@@ -220,16 +220,16 @@ pub fn decode_bytes(context: Context, source: &[u8], text: &mut [u8], errors: &m
     ensures { λ r. ⌜ DecodesBytes context (now (source .entry)) (now (text .entry)) (now (errors .entry)) r (now (text .exit))
         (now (errors .exit)) ⌝ }
 {
-    let first = unread(context, source, text.len(), errors.len() / 4);
-    let readable = (first.answer == 0) | (first.answer == 7);
+    let stop = unread(context, source, text.len(), errors.len() / 4);
+    let readable = (stop.answer == 0) | (stop.answer == 7);
     if !readable {
-        return first;
+        return stop;
     }
     read_covered_bytes(
         context,
-        &source[..first.place as usize],
+        &source[..stop.place as usize],
         text,
         errors,
-        first.answer,
+        stop.answer,
     )
 }

@@ -94,7 +94,7 @@ pub(crate) fn put_reference(text: &mut [u8], at: usize, reference: CharRef) -> u
     put_char(text, next, chars[1])
 }
 
-// An error.
+// Writes an error: its code, then its place.
 pub(crate) fn put_error(errors: &mut [u32], at: usize, code: u32, place: u32) -> usize
     requires { ⌜ at + 2 ≤ length (now errors) ⌝ }
     ensures { λ r. ⌜ Put (now (errors .entry)) at (code ∷ place ∷ []) (now (errors .exit)) r ⌝ }

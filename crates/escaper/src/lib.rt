@@ -1,9 +1,9 @@
 // Escaping: text or an attribute value with its special characters replaced. `write_escaped` of serialize/mod.rs.
 ghost use Rattle.escaper.specs.Escape.{Escapes};
 
-mod faults;
 mod results;
 mod specials;
+mod stops;
 
 // What is escaped: text, or the value of an attribute in quotation marks.
 pub enum Mode {
@@ -29,7 +29,7 @@ pub fn escape(mode: Mode, input: &[u8], out: &mut [u8]) -> Escaped
             place: 0,
         };
     }
-    let fault = faults::find_fault(input);
+    let fault = stops::find_stop(input);
     if fault.answer == 1 {
         return Escaped {
             answer: 1,

@@ -58,7 +58,7 @@ abbrev pub givenFor : {A : Type 0} → (A → Given) → Option A → Given
 givenFor gives none = untouched
 givenFor gives (some a) = gives a
 
--- The length of a report.
+-- A report is four numbers of four bytes.
 abbrev pub report-length : ℕ
 report-length = 16
 

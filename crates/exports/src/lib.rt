@@ -8,7 +8,7 @@ ghost use Rattle.exports.specs.Exports.{contextOf, modeOf, asked, decode
 use escaper::Mode;
 use standard::Context;
 
-// The length of a report.
+// A report is four numbers of four bytes.
 const REPORT_LENGTH: usize = 16;
 
 // The four numbers of a report, the first of which is the answer.

@@ -16,7 +16,7 @@ fn digit(n: u32) -> u8
     b'0' + n as u8
 }
 
-// A byte.
+// Writes one byte.
 fn put_byte(out: &mut [u8], at: usize, byte: u8) -> usize
     requires { ⌜ at < length (now out) ⌝ }
     ensures { λ r. ⌜ Put (now (out .entry)) at (byte ∷ []) (now (out .exit)) r ⌝ }

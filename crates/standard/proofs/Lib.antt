@@ -20,5 +20,5 @@ pub mod Bounds
 pub mod Ascii
 pub mod References
 pub mod Looking
-pub mod Faults
+pub mod Stopping
 pub mod FrontPiece

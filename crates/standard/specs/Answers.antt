@@ -49,6 +49,6 @@ not-whole = 10
 abbrev pub longest-slice : ℕ
 longest-slice = 65536
 
--- The longest stream.
+-- The most bytes that a stream takes.
 abbrev pub longest-stream : ℕ
 longest-stream = 16777216

@@ -6,7 +6,7 @@ use lib.Dec.{eqb}
 use Rattle.lists.specs.Notation.{if_then_else_, between}
 use Rattle.standard.specs.Errors.{no-error, control-character-in-input-stream, noncharacter-in-input-stream}
 
--- A noncharacter.
+-- A noncharacter: FDD0 to FDEF, and the last two code points of each plane.
 abbrev pub noncharacter : ℕ → Bool
 noncharacter c = between 0xFDD0 0xFDEF c || between 0xFFFE 0xFFFF (c % 0x10000)
 

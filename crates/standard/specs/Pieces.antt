@@ -70,7 +70,7 @@ unfoldable pub encodes : List ℕ → List ℕ
 encodes [] = []
 encodes (c ∷ cs) = encode c ++ encodes cs
 
--- The text of a reference.
+-- The text of what a name stands for: as many of its characters as it has.
 abbrev pub charRefText : CharRef → List ℕ
 charRefText r = encodes (take (r .«num_chars») (r .chars))
 

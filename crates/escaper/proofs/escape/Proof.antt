@@ -18,22 +18,22 @@ returns c =
     let w = answer-long (a .mode) (a .input .now) (length (a .out .now)) (c .if1 .taken) in
     record { answered = w .0; texts = ap (sets (a .out .now) 0) (w .1) }
 
-find-fault-requires : tie.Need-find-fault-requires
-find-fault-requires c κs = search needs
+find-stop-requires : tie.Need-find-stop-requires
+find-stop-requires c κs = search needs
 
 cast-t9 : tie.Need-cast-t9
-cast-t9 c = omega (arith, c .before .before .before .find-fault .ensures .2)
+cast-t9 c = omega (arith, c .before .before .before .find-stop .ensures .2)
 
 returns-2 : tie.Need-returns-2
 returns-2 c =
     let a = c .before .before .before .before .before .before .before .args in
-    let f = c .before .before .before .find-fault .ensures in
+    let f = c .before .before .before .find-stop .ensures in
     let w = answer-fault (a .mode) (a .input .now) (length (a .out .now)) (omega arith) (sym (f .0) ∙ c .before .if2 .taken) in
     record { answered = rw (f .1) (w .0); texts = ap (sets (a .out .now) 0) (w .1) }
 
 -- Past the second test the input has no fault.
 faultless : (c : tie.Else2) → escapeStop (c .before .before .before .before .before .before .args .input .now) .answer ≡ ill-formed → ⊥
-faultless c = rw (c .before .before .find-fault .ensures .0) at (c .if2 .left)
+faultless c = rw (c .before .before .find-stop .ensures .0) at (c .if2 .left)
 
 escaped-length-requires : tie.Need-escaped-length-requires
 escaped-length-requires c κs =
@@ -79,7 +79,7 @@ escape-spec =
     tie.close
     (tie.spec
     returns
-    find-fault-requires
+    find-stop-requires
     cast-t9
     returns-2
     escaped-length-requires

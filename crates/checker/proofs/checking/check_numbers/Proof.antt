@@ -50,13 +50,13 @@ returns-3 c =
     (lent (a .errors .now) (a .error-bytes .now))
     (omega arith) (rw (c4 .count .ensures) at (c3 .if2 .left)) (rw (c .before .before .count2 .ensures) at (c .before .if3 .taken))
 
-find-fault-requires : tie.Need-find-fault-requires
-find-fault-requires c κs = search needs
+find-stop-requires : tie.Need-find-stop-requires
+find-stop-requires c κs = search needs
 
 cast-refused : tie.Need-cast-refused
 cast-refused c =
     let c13 = c .before .before .before .before .before .before .before .before .before .before .before .before .before in
-    let a = c13 .args in omega (arith, c .before .find-fault .ensures .1, stop-place (a .context) (a .source .now))
+    let a = c13 .args in omega (arith, c .before .find-stop .ensures .1, stop-place (a .context) (a .source .now))
 
 refused-requires-4 : tie.Need-refused-requires-4
 refused-requires-4 c κs = search needs
@@ -72,7 +72,7 @@ returns-4 c =
     c .refused4 .ensures
     ∙ check-fault (a .context) (a .source .now) (lent (a .rows .now) (a .row-bytes .now)) (a .text .now) (lent (a .errors .now) (a .error-bytes .now))
     (omega arith) (rw (c6 .count .ensures) at (c5 .if2 .left)) (rw (c4 .count2 .ensures) at (c3 .if3 .left))
-    (c .before .before .find-fault .ensures .0) (c .before .before .find-fault .ensures .1) (not-true _ (c .before .if4 .taken))
+    (c .before .before .find-stop .ensures .0) (c .before .before .find-stop .ensures .1) (not-true _ (c .before .if4 .taken))
 
 builtin-names-requires : tie.Need-builtin-names-requires
 builtin-names-requires c κs = search needs
@@ -83,7 +83,7 @@ slice-aggregate-judge c = search needs
 slice-aggregate-judge-2 : tie.Need-slice-aggregate-judge-2
 slice-aggregate-judge-2 c =
     let a = c .before .before .before .before .before .before .before .before .before .before .before .before .before .before .before .before .args in
-    let k = stop-place (a .context) (a .source .now) in simp length-take (omega (arith, c .before .before .before .before .find-fault .ensures .1))
+    let k = stop-place (a .context) (a .source .now) in simp length-take (omega (arith, c .before .before .before .before .find-stop .ensures .1))
 
 judge-requires : tie.Need-judge-requires
 judge-requires c κs =
@@ -93,7 +93,7 @@ judge-requires c κs =
     let c16 = c8 .before .before .before .before .before .before .before .before in
     let a = c16 .args in
     let k = stop-place (a .context) (a .source .now) in
-    (simp length-take (omega (arith, c4 .find-fault .ensures .1)), rw (c8 .count .ensures) at (c7 .if2 .left))
+    (simp length-take (omega (arith, c4 .find-stop .ensures .1)), rw (c8 .count .ensures) at (c7 .if2 .left))
 
 returns-5 : tie.Need-returns-5
 returns-5 c =
@@ -108,9 +108,9 @@ returns-5 c =
     let a = c17 .args in
     check-judged (a .context) (a .source .now) (lent (a .rows .now) (a .row-bytes .now)) (a .text .now) (lent (a .errors .now) (a .error-bytes .now))
     (omega arith) (rw (c9 .count .ensures) at (c8 .if2 .left)) (rw (c7 .count2 .ensures) at (c6 .if3 .left))
-    (c5 .find-fault .ensures .0) (c5 .find-fault .ensures .1) (not-false _ (c4 .if4 .left)) (c3 .builtin-names .ensures) (c .judge .ensures)
+    (c5 .find-stop .ensures .0) (c5 .find-stop .ensures .1) (not-false _ (c4 .if4 .left)) (c3 .builtin-names .ensures) (c .judge .ensures)
 
 pub check-numbers-spec : {M : Type 1} → statement M
 check-numbers-spec = tie.close
-    (tie.spec refused-requires returns count-requires refused-requires-2 returns-2 count-requires-2 refused-requires-3 returns-3 find-fault-requires
+    (tie.spec refused-requires returns count-requires refused-requires-2 returns-2 count-requires-2 refused-requires-3 returns-3 find-stop-requires
     cast-refused refused-requires-4 returns-4 builtin-names-requires slice-aggregate-judge slice-aggregate-judge-2 judge-requires returns-5)

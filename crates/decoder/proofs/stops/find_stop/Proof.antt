@@ -8,7 +8,7 @@ use Rattle.standard.specs.Answers.{done}
 use Rattle.standard.specs.Reading.{callsFor}
 use Rattle.standard.proofs.Stops.{ascii-calls}
 use Rattle.standard.proofs.Looking.{Looking, looking-start, looking-run, looking-end}
-use Rattle.standard.proofs.Faults.{stop-is, fault-other, fault-called, fault-none, fault-size}
+use Rattle.standard.proofs.Stopping.{stop-is, turn-other, turn-called, turn-none, turn-size}
 use Rattle.runs.specs.Kinds.{ordinary}
 use Rattle.decoder.proofs.stops.find_stop.Statement.{statement}
 use Rattle.decoder.proofs.stops.find_stop.Tie as tie
@@ -57,7 +57,7 @@ enum-known-value c = search needs
 returns-2 : tie.Need-returns-2 Inv-loop μ-loop
 returns-2 c =
     let i = c .before .before .before in
-    fault-other (passed (i .before)) (i .if1 .left) (c .before .read-char .ensures) (c .match .keys2)
+    turn-other (passed (i .before)) (i .if1 .left) (c .before .read-char .ensures) (c .match .keys2)
 
 calls-for-requires : tie.Need-calls-for-requires Inv-loop μ-loop
 calls-for-requires c κs = search needs
@@ -67,14 +67,14 @@ returns-3 c =
     let char = c .before .before .before in
     let read = char .before .before in
     let i = read .before .before in
-    fault-called (passed (i .before)) (i .if1 .left) (read .read-char .ensures) (char .value .given .1) (c .before .calls-for .ensures) (c .if2 .taken)
+    turn-called (passed (i .before)) (i .if1 .left) (read .read-char .ensures) (char .value .given .1) (c .before .calls-for .ensures) (c .if2 .taken)
 
 loop-again : tie.Need-loop-again Inv-loop μ-loop
 loop-again c =
     let char = c .before .before .before in
     let read = char .before .before in
     let i = read .before .before in
-    fault-none (passed (i .before)) (i .if1 .left) (read .read-char .ensures) (char .value .given .1) (c .before .calls-for .ensures) (c .if2 .left)
+    turn-none (passed (i .before)) (i .if1 .left) (read .read-char .ensures) (char .value .given .1) (c .before .calls-for .ensures) (c .if2 .left)
 
 add-at : tie.Need-add-at Inv-loop μ-loop
 add-at c = omega (arith, loop-again c .there)
@@ -88,7 +88,7 @@ loop-less c =
       arith,
       loop-again c .there,
       i .before .ordinary-end .ensures,
-      fault-size (passed (i .before)) (i .if1 .left) (read .read-char .ensures) (char .value .given .1) (c .before .calls-for .ensures),
+      turn-size (passed (i .before)) (i .if1 .left) (read .read-char .ensures) (char .value .given .1) (c .before .calls-for .ensures),
     )
 
 pub find-stop-spec : {M : Type 1} → statement M

@@ -12,7 +12,7 @@ pub(crate) struct Stopped {
 }
 
 // Where s stops.
-pub(crate) fn find_fault(s: &[u8]) -> Stopped
+pub(crate) fn find_stop(s: &[u8]) -> Stopped
     ensures { λ r. ⌜ (r .answer ≡ escapeStop (now (s .entry)) .answer) × (r .place ≡ escapeStop (now (s .entry)) .place)
         × (r .place ≤ length (now (s .entry))) ⌝ }
 {

@@ -9,10 +9,10 @@ use Rattle.standard.specs.Answers.{done}
 use Rattle.standard.specs.Reading.{callsFor}
 use Rattle.standard.proofs.Stops.{ascii-calls}
 use Rattle.standard.proofs.Looking.{Looking, looking-start, looking-span, looking-end}
-use Rattle.standard.proofs.Faults.{stop-is, fault-other, fault-called, fault-none, fault-size}
-use Rattle.checker.specs.Spans.{quiet}
-use Rattle.checker.proofs.faults.find_fault.Statement.{statement}
-use Rattle.checker.proofs.faults.find_fault.Tie as tie
+use Rattle.standard.proofs.Stopping.{stop-is, turn-other, turn-called, turn-none, turn-size}
+use Rattle.checker.specs.Spans.{ordinary}
+use Rattle.checker.proofs.stops.find_stop.Statement.{statement}
+use Rattle.checker.proofs.stops.find_stop.Tie as tie
 
 abbrev Inv-loop : tie.InvT-loop
 Inv-loop context s at₀ at = Looking (callsFor context) s at
@@ -23,19 +23,19 @@ abbrev μ-loop : tie.MeasureT-loop
 loop-holds : tie.Need-loop-holds Inv-loop μ-loop
 loop-holds c = looking-start
 
-quiet-run-requires : tie.Need-quiet-run-requires Inv-loop μ-loop
-quiet-run-requires c κs = c .loop .inv .there
+ordinary-span-requires : tie.Need-ordinary-span-requires Inv-loop μ-loop
+ordinary-span-requires c κs = c .loop .inv .there
 
 -- A run is passed.
-passed : (c : tie.After-quiet-run Inv-loop μ-loop) →
-    let a = c .before .before .before .args in Looking (callsFor (a .context)) (a .s .now) (c .quiet-run .result)
+passed : (c : tie.After-ordinary-span Inv-loop μ-loop) →
+    let a = c .before .before .before .args in Looking (callsFor (a .context)) (a .s .now) (c .ordinary-span .result)
 passed c =
     let context = c .before .before .before .args .context in
-    let e = c .quiet-run .ensures in
-    let to = c .quiet-run .result in
+    let e = c .ordinary-span .ensures in
+    let to = c .ordinary-span .result in
     let at = c .before .loop .at in
     let all : at + (to - at) ≡ to = omega (arith, e .0) in
-    rw all at (looking-span (c .before .loop .inv) (quiet (endByte context)) (ascii-calls context) (to - at) (omega (arith, e .0, e .1)) (e .2))
+    rw all at (looking-span (c .before .loop .inv) (ordinary (endByte context)) (ascii-calls context) (to - at) (omega (arith, e .0, e .1)) (e .2))
 
 returns : tie.Need-returns Inv-loop μ-loop
 returns c = stop-is done _ (looking-end (passed (c .before)) (omega (arith, c .if1 .taken)))
@@ -59,7 +59,7 @@ returns-2 : tie.Need-returns-2 Inv-loop μ-loop
 returns-2 c =
     let c3 = c .before .before .before in
     let c4 = c3 .before in
-    fault-other (passed c4) (omega (arith, passed c4 .there, c3 .if1 .left)) (c .before .read-char .ensures) (c .match .keys2)
+    turn-other (passed c4) (omega (arith, passed c4 .there, c3 .if1 .left)) (c .before .read-char .ensures) (c .match .keys2)
 
 called-for-requires : tie.Need-called-for-requires Inv-loop μ-loop
 called-for-requires c κs = search needs
@@ -70,7 +70,7 @@ returns-3 c =
     let c5 = c3 .before .before in
     let c7 = c5 .before .before in
     let c8 = c7 .before in
-    fault-called (passed c8) (omega (arith, passed c8 .there, c7 .if1 .left)) (c5 .read-char .ensures) (c3 .value .given .1)
+    turn-called (passed c8) (omega (arith, passed c8 .there, c7 .if1 .left)) (c5 .read-char .ensures) (c3 .value .given .1)
     (c .before .called-for .ensures) (c .if2 .taken)
 
 loop-again : tie.Need-loop-again Inv-loop μ-loop
@@ -79,7 +79,7 @@ loop-again c =
     let c5 = c3 .before .before in
     let c7 = c5 .before .before in
     let c8 = c7 .before in
-    fault-none (passed c8) (omega (arith, passed c8 .there, c7 .if1 .left)) (c5 .read-char .ensures) (c3 .value .given .1)
+    turn-none (passed c8) (omega (arith, passed c8 .there, c7 .if1 .left)) (c5 .read-char .ensures) (c3 .value .given .1)
     (c .before .called-for .ensures) (c .if2 .left)
 
 add-at : tie.Need-add-at Inv-loop μ-loop
@@ -94,12 +94,12 @@ loop-less c =
     omega (
       arith,
       loop-again c .there,
-      c8 .quiet-run .ensures .0,
-      fault-size (passed c8) (omega (arith, passed c8 .there, c7 .if1 .left)) (c5 .read-char .ensures) (c3 .value .given .1)
+      c8 .ordinary-span .ensures .0,
+      turn-size (passed c8) (omega (arith, passed c8 .there, c7 .if1 .left)) (c5 .read-char .ensures) (c3 .value .given .1)
           (c .before .called-for .ensures),
     )
 
-pub find-fault-spec : {M : Type 1} → statement M
-find-fault-spec = tie.close
-    (tie.spec Inv-loop μ-loop loop-holds quiet-run-requires returns sub-read-char part-read-char-start part-read-char-end read-char-requires
+pub find-stop-spec : {M : Type 1} → statement M
+find-stop-spec = tie.close
+    (tie.spec Inv-loop μ-loop loop-holds ordinary-span-requires returns sub-read-char part-read-char-start part-read-char-end read-char-requires
     enum-known-value returns-2 called-for-requires returns-3 add-at loop-less loop-again)

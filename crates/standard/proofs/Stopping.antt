@@ -35,9 +35,9 @@ module _ {calls : ℕ → ℕ} {s : List ℕ} {at : ℕ} (l : Looking calls s at
   read-is = sym (reads ∙ ap readChar (rest-from s at))
 
   -- No character is read.
-  pub fault-other : OneOf (1 ∷ 2 ∷ 3 ∷ []) (tagOf the-type read)
+  pub turn-other : OneOf (1 ∷ 2 ∷ 3 ∷ []) (tagOf the-type read)
       → (ill-formed ≡ stopFrom calls 0 0 s .answer) × (at ≡ stopFrom calls 0 0 s .place)
-  fault-other k =
+  turn-other k =
       let is = ap (answerTo calls) read-is
       ∙ other-answer calls (drop at s) read read-is (let h : 0 < length (drop at s) = simp length-drop (omega arith) in h) k in
       let some : answerTo calls (readChar (drop at s)) ≢ done = λ e. absurd (omega (arith, is, e)) in
@@ -48,13 +48,13 @@ module _ {calls : ℕ → ℕ} {s : List ℕ} {at : ℕ} (l : Looking calls s at
     calls-is = ap (answerTo calls) (read-is ∙ char) ∙ sym called
 
     -- A character is read that calls for an answer.
-    pub fault-called : answer ≢ done → (answer ≡ stopFrom calls 0 0 s .answer) × (at ≡ stopFrom calls 0 0 s .place)
-    fault-called some = stop-is answer at (looking-stops l (λ e. some (sym calls-is ∙ e)) ∙ ap (λ (a : ℕ). stops a at) calls-is)
+    pub turn-called : answer ≢ done → (answer ≡ stopFrom calls 0 0 s .answer) × (at ≡ stopFrom calls 0 0 s .place)
+    turn-called some = stop-is answer at (looking-stops l (λ e. some (sym calls-is ∙ e)) ∙ ap (λ (a : ℕ). stops a at) calls-is)
 
     -- One is read that calls for none.
-    pub fault-none : answer ≡ done → Looking calls s (at + n)
-    fault-none e = rw (read-is ∙ char) at (looking-on l (calls-is ∙ e))
+    pub turn-none : answer ≡ done → Looking calls s (at + n)
+    turn-none e = rw (read-is ∙ char) at (looking-on l (calls-is ∙ e))
 
     -- It has a byte.
-    pub fault-size : 0 < n
-    fault-size = read-length (drop at s) value n (read-is ∙ char) .0
+    pub turn-size : 0 < n
+    turn-size = read-length (drop at s) value n (read-is ∙ char) .0

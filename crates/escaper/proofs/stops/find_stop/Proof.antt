@@ -8,10 +8,10 @@ use borrow.Author.Tests.{lt-ltb, ltb-true}
 use Rattle.lists.proofs.Fronts.{front-goes-on}
 use Rattle.standard.specs.Answers.{done}
 use Rattle.standard.proofs.Looking.{Looking, looking-start, looking-run, looking-end}
-use Rattle.standard.proofs.Faults.{stop-is, fault-other, fault-none, fault-size}
+use Rattle.standard.proofs.Stopping.{stop-is, turn-other, turn-none, turn-size}
 use Rattle.runs.specs.Kinds.{ascii}
-use Rattle.escaper.proofs.faults.find_fault.Statement.{statement}
-use Rattle.escaper.proofs.faults.find_fault.Tie as tie
+use Rattle.escaper.proofs.stops.find_stop.Statement.{statement}
+use Rattle.escaper.proofs.stops.find_stop.Tie as tie
 
 -- A character calls for nothing.
 abbrev calls : ℕ → ℕ
@@ -65,12 +65,12 @@ enum-known-len c = search needs
 returns : tie.Need-returns Inv-loop μ-loop
 returns c =
     let l = c .before .before .before .before .before .before .loop .inv in
-    let w = fault-other l (omega arith) (c .before .read-char .ensures) (c .match .keys2) in (w .0, w .1, l .there)
+    let w = turn-other l (omega arith) (c .before .read-char .ensures) (c .match .keys2) in (w .0, w .1, l .there)
 
 loop-again-2 : tie.Need-loop-again-2 Inv-loop μ-loop
 loop-again-2 c =
     let l = c .before .before .before .before .before .before .before .before .loop .inv in
-    fault-none l (omega arith) (c .before .before .before .read-char .ensures) (c .before .len .given .1) refl refl
+    turn-none l (omega arith) (c .before .before .before .read-char .ensures) (c .before .len .given .1) refl refl
 
 add-at : tie.Need-add-at Inv-loop μ-loop
 add-at c = omega (arith, loop-again-2 c .there)
@@ -81,7 +81,7 @@ loop-less-2 c =
     omega (
       arith,
       loop-again-2 c .there,
-      fault-size l (omega arith) (c .before .before .before .read-char .ensures) (c .before .len .given .1) refl,
+      turn-size l (omega arith) (c .before .before .before .read-char .ensures) (c .before .len .given .1) refl,
     )
 
 returns-2 : tie.Need-returns-2 Inv-loop μ-loop
@@ -89,8 +89,8 @@ returns-2 c =
     let l = c .before .loop .inv in
     let w = stop-is done _ (looking-end l (omega arith)) in (w .0, w .1, l .there)
 
-pub find-fault-spec : {M : Type 1} → statement M
-find-fault-spec =
+pub find-stop-spec : {M : Type 1} → statement M
+find-stop-spec =
     tie.close
     (tie.spec
     Inv-loop
