@@ -129,42 +129,16 @@ module _ {context : Context} {r : Stream} {t : List ℕ} {g : Reading} (s : Stan
   walked-here chunk text errors =
       ap₂ (λ (c : Context) (at : At). walk builtin c text errors at chunk) standing-context standing-at
 
-  -- What it took, with what was taken before.
-  pub record After (text errors : ℕ) (chunk : List ℕ) (w : Walked) : Type 0 where
-    pub count : ℕ
-    pub within : count ≤ length chunk
-    pub before : Reading
-    pub went-on : go builtin context start (t ++ take count chunk) ≡ stopsAt done (g ⊕ before) (w .stop)
-    pub gave : w .gives ≡ before ⊕ lastOf builtin context (w .answer) (w .stop .st)
-    pub counted : w .stop .taken ≡ length t + count
-    pub all : w .answer ≡ done → count ≡ length chunk
-    pub some : lacksRoom text errors ≡ false → w .answer ≡ room-used-up → 0 < count
-    pub says : (w .answer ≡ done) ⊎ ((w .answer ≡ room-used-up) ⊎ (closes (w .answer) ≡ true))
+  -- Bytes from here go on from those before.
+  go-here : (u : List ℕ) → go builtin context start (t ++ u) ≡ onward g (go builtin context (s .here) u)
+  go-here u =
+      go-onward builtin context start t u (ap (λ (x : Walked). x .answer) (s .went))
+      ∙ ap (λ (x : Walked). onward (x .gives) (go builtin context (x .stop) u)) (s .went)
 
-  walk-after : (chunk : List ℕ) (text errors : ℕ) → After text errors chunk (walk builtin context text errors (s .here) chunk)
-  walk-after chunk text errors = record {
-    count = took .count;
-    within = took .within;
-    before = took .before;
-    went-on = on;
-    gave = took .gave;
-    counted = took .counted ∙ ap (λ (n : ℕ). n + took .count) taken-here;
-    all = took .all;
-    some = took .some;
-    says = took .says;
-  }
-    where
-      w : Walked
-      w = walk builtin context text errors (s .here) chunk
-
-      took : Took builtin context text errors (s .here) chunk (walk builtin context text errors (s .here) chunk)
-      took = walk-took builtin context text errors (s .here) chunk
-
-      on : go builtin context start (t ++ take (took .count) chunk) ≡ stopsAt done (g ⊕ took .before) (w .stop)
-      on =
-          go-onward builtin context start t (take (took .count) chunk) (ap (λ (x : Walked). x .answer) (s .went))
-          ∙ ap (λ (x : Walked). onward (x .gives) (go builtin context (x .stop) (take (took .count) chunk))) (s .went)
-          ∙ ap (onward g) (took .taken)
+  -- What a walk took, with what was taken before.
+  went-on : {chunk : List ℕ} {text errors : ℕ} {w : Walked} (a : Took builtin context text errors (s .here) chunk w)
+      → go builtin context start (t ++ take (a .count) chunk) ≡ stopsAt done (g ⊕ a .before) (w .stop)
+  went-on {chunk = chunk} a = go-here (take (a .count) chunk) ∙ ap (onward g) (a .taken)
 
   -- After a call that does not close the stream it stands where its walk ended.
   standing-on : (chunk : List ℕ) (text errors : ℕ) → let w = walk builtin context text errors (s .here) chunk in
@@ -172,20 +146,20 @@ module _ {context : Context} {r : Stream} {t : List ℕ} {g : Reading} (s : Stan
       → Standing context (recordOf context (w .stop)) (t ++ take (w .stop .taken - length t) chunk) (g ⊕ w .gives)
   standing-on chunk text errors e short =
       subst (λ (n : ℕ). Standing context (recordOf context (w .stop)) (t ++ take n chunk) (g ⊕ w .gives))
-      (let i : a .count ≡ w .stop .taken - length t = omega (arith, a .counted) in i)
+      (let i : a .count ≡ w .stop .taken - length t = omega (arith, a .counted, taken-here) in i)
       (record {
         here = w .stop;
         recorded = refl;
-        went = a .went-on ∙ ap (λ (x : Reading). stopsAt done (g ⊕ x) (w .stop)) (sym (a .gave ∙ nothing-last));
-        sound = go-sound context start (t ++ take (a .count) chunk) sound-start (a .went-on);
+        went = went-on a ∙ ap (λ (x : Reading). stopsAt done (g ⊕ x) (w .stop)) (sym (a .gave ∙ nothing-last));
+        sound = go-sound context start (t ++ take (a .count) chunk) sound-start (went-on a);
         short = simp (length-append, length-take) (omega (arith, a .within));
       })
     where
       w : Walked
       w = walk builtin context text errors (s .here) chunk
 
-      a : After text errors chunk (walk builtin context text errors (s .here) chunk)
-      a = walk-after chunk text errors
+      a : Took builtin context text errors (s .here) chunk (walk builtin context text errors (s .here) chunk)
+      a = walk-took builtin context text errors (s .here) chunk
 
       nothing-last : a .before ⊕ lastOf builtin context (w .answer) (w .stop .st) ≡ a .before
       nothing-last =
@@ -214,14 +188,15 @@ module _ {context : Context} {r : Stream} {t : List ℕ} {g : Reading} (s : Stan
   unfolding walkedTo
   walk-comes chunk text errors short room =
       if-both (Comes chunk) (closes (w .answer)) _ _ closing
-      (λ e. goes e (says e (a .says)) (λ d. omega (arith, a .counted, a .all d)) (λ d. omega (arith, a .counted, a .some room d))
-      (omega (arith, a .counted, a .within)) (standing-on chunk text errors e short))
+      (λ e. goes e (says e (a .says)) (λ d. omega (arith, a .counted, taken-here, a .all d))
+      (λ d. omega (arith, a .counted, taken-here, a .some room d)) (omega (arith, a .counted, taken-here, a .within))
+      (standing-on chunk text errors e short))
     where
       w : Walked
       w = walk builtin context text errors (s .here) chunk
 
-      a : After text errors chunk (walk builtin context text errors (s .here) chunk)
-      a = walk-after chunk text errors
+      a : Took builtin context text errors (s .here) chunk (walk builtin context text errors (s .here) chunk)
+      a = walk-took builtin context text errors (s .here) chunk
 
       says : closes (w .answer) ≡ false → (w .answer ≡ done) ⊎ ((w .answer ≡ room-used-up) ⊎ (closes (w .answer) ≡ true))
           → (w .answer ≡ done) ⊎ (w .answer ≡ room-used-up)
@@ -232,19 +207,16 @@ module _ {context : Context} {r : Stream} {t : List ℕ} {g : Reading} (s : Stan
       closing : closes (w .answer) ≡ true
           → Comes chunk (outcome (w .answer) (w .stop .taken - length t) (placeOf (w .stop)) (w .gives) (closedBy context (w .stop .taken)))
       closing e =
-          let k : a .count ≡ w .stop .taken - length t = omega (arith, a .counted) in
+          let k : a .count ≡ w .stop .taken - length t = omega (arith, a .counted, taken-here) in
           stops {o = outcome (w .answer) (w .stop .taken - length t) (placeOf (w .stop)) (w .gives) (closedBy context (w .stop .taken))} e record {
             stop = w .stop;
-            within = omega (arith, a .counted, a .within);
+            within = omega (arith, k, a .within);
             before = a .before;
-            took = ap (λ (n : ℕ). go builtin context start (t ++ take n chunk)) (sym k) ∙ a .went-on;
+            took = ap (λ (n : ℕ). go builtin context start (t ++ take n chunk)) (sym k) ∙ went-on a;
             gave = a .gave;
-            record-is = ap (closedBy context) (let i : w .stop .taken ≡ length t + (w .stop .taken - length t) = omega (arith, a .counted) in i);
+            record-is = ap (closedBy context) (a .counted ∙ ap₂ _+_ taken-here k);
             place-is = refl;
-            stopped =
-                go-onward builtin context start t chunk (ap (λ (x : Walked). x .answer) (s .went))
-                ∙ ap (λ (x : Walked). onward (x .gives) (go builtin context (x .stop) chunk)) (s .went)
-                ∙ ap (onward g) (walk-goes builtin context text errors (s .here) chunk (not-full (w .answer) e));
+            stopped = go-here chunk ∙ ap (onward g) (walk-goes builtin context text errors (s .here) chunk (not-full (w .answer) e));
           }
         where
           not-full : (answer : ℕ) → closes answer ≡ true → answer ≢ room-used-up
