@@ -53,8 +53,8 @@ abbrev pub endNamed : (answer length : ℕ) → ℕ
 endNamed answer length = if eqb answer context-end then length else 0
 
 -- A covered part was read: the result says what was written, and the rooms hold it, the error numbers laid so.
-pub record ReadCovered (lay : List ℕ → List ℕ) (context : Context) (s : List ℕ) (answer : ℕ) (text errors : List ℕ) (r : Decoded) (text′ errors′ : List ℕ)
-    : Type 0 where
+pub record ReadCovered (lay : List ℕ → List ℕ) (context : Context) (s : List ℕ) (answer : ℕ) (text errors : List ℕ) (r : Decoded)
+    (text′ errors′ : List ℕ) : Type 0 where
   pub answered : r
       ≡ decoded answer (length (decode builtin context s .text)) (length (decode builtin context s .errors)) (endNamed answer (length s))
   pub texts : text′ ≡ sets text 0 (decode builtin context s .text)

@@ -1,4 +1,4 @@
-// What the decoder and the checker share, and nothing more: the contexts, the reader of one character, and the names.
+// What other crates share, decoder and checker nothing beside: the contexts, the reader of one character, and the names.
 pub mod characters;
 pub mod names;
 pub mod table;
