@@ -8,7 +8,7 @@ use mathlib.Core.Logic.{_⊎_, inl, inr, ⊎-elim}
 use native.Mathlib.Omega.{arith}
 use lib.Dec.{eqb}
 use lib.ListN.{length}
-use borrow.Author.Tests.{le-ltb, eqb-true, eq-eqb}
+use borrow.Author.Tests.{eqb-true, eq-eqb}
 use Rattle.lists.specs.Notation.{if_then_else_}
 use Rattle.lists.specs.Bytes.{words}
 use Rattle.lists.proofs.Choice.{no-way, test?, same?, below?, and-true}
@@ -19,7 +19,7 @@ use Rattle.standard.specs.Reading.{Stop, stopOf, covered, readable}
 use Rattle.standard.proofs.Stops.{OneOf, stops-with}
 use Rattle.checker.specs.declared.checking.Checked.{Checked}
 use Rattle.checker.specs.Transcript.{right, Verdict, verdict, verdictOn, checked, checkedOf, checkedBytes}
-use Rattle.checker.proofs.CheckLaws.{check-long, bytes-long, bytes-rows, bytes-errors, bytes-checked}
+use Rattle.checker.proofs.CheckLaws.{check-order, bytes-order}
 use Rattle.demands.proofs.Lines.{Line, line-by}
 
 -- The answers of the check.
@@ -66,20 +66,16 @@ module _ (context : Context) (source rows text errors : List ℕ) where
 
   -- 3.
   says-long : 65536 < length source → all ≡ checked too-long (verdict right 0) 0
-  says-long h = sym (check-long context source rows text errors h)
+  says-long h = sym (check-order context source rows text errors .long h)
 
   -- 10.
   says-part : length source ≤ 65536 → (ThreesAndPairs → ⊥) → all ≡ checked not-whole (verdict right 0) 0
-  unfolding checkedOf
-  says-part short no-whole =
-      rw (le-ltb 65536 (length source) short)
-      (⊎-elim (λ t. absurd (no-whole (whole-of t))) (λ f. rw f) (test? (eqb (length rows % 3) 0 && eqb (length errors % 2) 0)))
+  says-part short no-whole = sym (check-order context source rows text errors .odd short no-whole)
 
   -- After these the answer is by whether the source is readable.
   says-looked : Looked
       → all ≡ (if not (readable context source) then checked (stop .answer) (verdict right 0) (stop .place) else checked done found 0)
-  unfolding checkedOf
-  says-looked h = rw (le-ltb 65536 (length source) (h .0), whole-test (h .1))
+  says-looked h = sym (check-order context source rows text errors .whole (h .0) (h .1 .0) (h .1 .1))
 
   -- 1 and 2.
   says-stop : (a : ℕ) → eqb a done || eqb a context-end ≡ false → Looked → stop .answer ≡ a → all ≡ checked a (verdict right 0) (stop .place)
@@ -176,16 +172,13 @@ module _ (context : Context) (source rows text errors : List ℕ) (c : Checked) 
   Fours = (length rows % 4 ≡ 0) × (length errors % 4 ≡ 0)
 
   pub bytes-3 : 65536 < length source → c ≡ checked too-long (verdict right 0) 0
-  bytes-3 h = is ∙ sym (bytes-long context source rows text errors h)
+  bytes-3 h = is ∙ sym (bytes-order context source rows text errors .long h)
 
   pub bytes-10 : length source ≤ 65536 → (Fours → ⊥) → c ≡ checked not-whole (verdict right 0) 0
-  bytes-10 short odd =
-      is
-      ∙ sym (⊎-elim (λ whole. bytes-errors context source rows text errors short whole (λ e. odd (whole, e)))
-      (bytes-rows context source rows text errors short) (same? (length rows % 4) 0))
+  bytes-10 short odd = is ∙ sym (bytes-order context source rows text errors .odd short odd)
 
   pub bytes-as-words : length source ≤ 65536 → Fours → c ≡ checkedOf builtin context source (words rows) text (words errors)
-  bytes-as-words short whole = is ∙ sym (bytes-checked context source rows text errors short (whole .0) (whole .1))
+  bytes-as-words short whole = is ∙ sym (bytes-order context source rows text errors .whole short (whole .0) (whole .1))
 
   -- What holds in each of these three cases holds.
   pub by-bytes : (A : Type 0) → (65536 < length source → A) → (length source ≤ 65536 → (Fours → ⊥) → A) → (length source ≤ 65536 → Fours → A) → A

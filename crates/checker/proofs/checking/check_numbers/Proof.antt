@@ -5,7 +5,7 @@ use borrow.Author.Needs.{needs}
 use borrow.Author.Tests.{not-true, not-false}
 use Rattle.standard.proofs.Stops.{stop-place}
 use Rattle.checker.specs.Meeting.{lent}
-use Rattle.checker.proofs.CheckLaws.{check-long, check-rows, check-errors, check-fault, check-judged}
+use Rattle.checker.proofs.CheckLaws.{check-order, check-fault, check-judged}
 use Rattle.checker.proofs.checking.check_numbers.Statement.{statement}
 use Rattle.checker.proofs.checking.check_numbers.Tie as tie
 
@@ -16,8 +16,8 @@ returns : tie.Need-returns
 returns c =
     let c8 = c .before .before .before .before .before .before .before .before in
     let a = c8 .args in c .refused .ensures
-    ∙ check-long (a .context) (a .source .now) (lent (a .rows .now) (a .row-bytes .now)) (a .text .now) (lent (a .errors .now) (a .error-bytes .now))
-    (c .before .if1 .taken)
+    ∙ check-order (a .context) (a .source .now) (lent (a .rows .now) (a .row-bytes .now)) (a .text .now) (lent (a .errors .now) (a .error-bytes .now))
+    .long (c .before .if1 .taken)
 
 count-requires : tie.Need-count-requires
 count-requires c κs = search needs
@@ -29,8 +29,9 @@ returns-2 : tie.Need-returns-2
 returns-2 c =
     let c10 = c .before .before .before .before .before .before .before .before .before .before in
     let a = c10 .args in
-    c .refused2 .ensures ∙ check-rows (a .context) (a .source .now) (lent (a .rows .now) (a .row-bytes .now)) (a .text .now)
-    (lent (a .errors .now) (a .error-bytes .now)) (omega arith) (rw (c .before .before .count .ensures) at (c .before .if2 .taken))
+    c .refused2 .ensures ∙ check-order (a .context) (a .source .now) (lent (a .rows .now) (a .row-bytes .now)) (a .text .now)
+    (lent (a .errors .now) (a .error-bytes .now)) .odd (omega arith)
+    (λ z. (rw (c .before .before .count .ensures) at (c .before .if2 .taken)) (z .0))
 
 count-requires-2 : tie.Need-count-requires-2
 count-requires-2 c κs = search needs
@@ -40,15 +41,10 @@ refused-requires-3 c κs = search needs
 
 returns-3 : tie.Need-returns-3
 returns-3 c =
-    let c3 = c .before .before .before in
-    let c3 = c3 in
-    let c4 = c3 .before in
-    let c12 = c4 .before .before .before .before .before .before .before .before in
-    let a = c12 .args in
-    c .refused3 .ensures
-    ∙ check-errors (a .context) (a .source .now) (lent (a .rows .now) (a .row-bytes .now)) (a .text .now)
-    (lent (a .errors .now) (a .error-bytes .now))
-    (omega arith) (rw (c4 .count .ensures) at (c3 .if2 .left)) (rw (c .before .before .count2 .ensures) at (c .before .if3 .taken))
+    let a = c .before .before .before .before .before .before .before .before .before .before .before .before .args in
+    c .refused3 .ensures ∙ check-order (a .context) (a .source .now) (lent (a .rows .now) (a .row-bytes .now)) (a .text .now)
+    (lent (a .errors .now) (a .error-bytes .now)) .odd (omega arith)
+    (λ z. (rw (c .before .before .count2 .ensures) at (c .before .if3 .taken)) (z .1))
 
 find-stop-requires : tie.Need-find-stop-requires
 find-stop-requires c κs = search needs
