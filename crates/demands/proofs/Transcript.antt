@@ -13,7 +13,7 @@ use Rattle.lists.specs.Notation.{if_then_else_}
 use Rattle.lists.proofs.Choice.{no-way}
 use Rattle.lists.proofs.Every.{All}
 use Rattle.lists.proofs.Puts.{take-written}
-use Rattle.lists.proofs.Layings.{laid-plainly}
+use Rattle.lists.proofs.Layings.{Laying, laid-plainly}
 use Rattle.standard.specs.declared.Context.{Context}
 use Rattle.standard.specs.Answers.{done, context-end}
 use Rattle.standard.specs.Errors.{numbers}
@@ -26,7 +26,7 @@ use Rattle.checker.specs.declared.checking.Checked.{Checked}
 use Rattle.checker.specs.Transcript.{rowsOf, Left, left, total, right, remains, Verdict, judge, checked, checkedOf}
 use Rattle.checker.proofs.RowLaws.{pieces-total}
 use Rattle.decoder.specs.declared.whole.Decoded.{Decoded}
-use Rattle.decoder.specs.Whole.{decoded, Decodes}
+use Rattle.decoder.specs.Whole.{RoomFor, decoded, DecodesBy, Decodes}
 use Rattle.demands.proofs.Lines.{Line, LineOf}
 use Rattle.demands.proofs.Laws.{rooms-suffice}
 use Rattle.demands.proofs.RightRows.{none, Good, Remains, FirstWrong, together, rowsFor, inThrees, column}
@@ -206,40 +206,46 @@ module _ (context : Context) (source : List ℕ) (short : length source ≤ 6553
       (rw bytes at is)
 
   -- The place where a source stops is how much of it is covered.
-  pub covered-length : length (covered context source) ≡ stopOf context source .place
+  covered-length : length (covered context source) ≡ stopOf context source .place
   covered-length = omega (arith, length-take (stopOf context source .place) source, stop-place context source)
+
+  -- However numbers are laid: the answer of a decoding into rooms that suffice is the covered part's row, and what it wrote is the standard's.
+  module _ {width : ℕ} {lay : List ℕ → List ℕ} (laid : Laying width lay) (room : ℕ) (text errors : List ℕ) (d : Decoded) (text′ errors′ : List ℕ)
+      (decodes : DecodesBy lay room context source text errors d text′ errors′) (suffice : RoomFor source (length text) room) where
+    abbrev ReadAsRow : Type 0
+    ReadAsRow = (asRow source d ≡ length (covered context source) ∷ length (whole .text) ∷ length (whole .errors) ∷ [])
+        × (d .errors ≡ length (whole .errors)) × (take (d .text) text′ ≡ whole .text) × (errors′ ≡ sets errors 0 (lay (numbers (whole .errors))))
+
+    pub read-as-row : ReadAsRow
+    read-as-row = go (stops-with context source)
+      where
+        text-there : take (length (whole .text)) (sets text 0 (whole .text)) ≡ whole .text
+        text-there = take-written text (whole .text) (length (whole .text)) refl (omega (arith, suffice .0, rooms-suffice context source .0))
+
+        by-answer : (answer place : ℕ)
+            → (d ≡ decoded answer (length (whole .text)) (length (whole .errors)) place) × (text′ ≡ sets text 0 (whole .text))
+            × (errors′ ≡ sets errors 0 (lay (numbers (whole .errors))))
+            → (if eqb answer context-end then place else length source) ≡ length (covered context source) → ReadAsRow
+        by-answer answer place w covers = rw (w .0, w .1, covers) (refl, refl, text-there, w .2)
+
+        go : OneOf (stopOf context source .answer) → ReadAsRow
+        go (inl e) =
+            by-answer done 0 (whole-answers.line-0 laid room context source text errors d text′ errors′ decodes .so (short, suffice, e))
+            (omega (arith, covered-length, stop-done context source e))
+        go (inr (inl e)) = no-way (sym (rw e at reads))
+        go (inr (inr (inl e))) = no-way (sym (rw e at reads))
+        go (inr (inr (inr e))) =
+            by-answer context-end (stopOf context source .place)
+            (whole-answers.line-7 laid room context source text errors d text′ errors′ decodes .so (short, suffice, e)) (sym covered-length)
 
   module _ (text errors : List ℕ) (d : Decoded) (text′ errors′ : List ℕ) (decodes : Decodes context source text errors d text′ errors′) where
     -- The answer of `decode_whole`, with what it wrote into rooms that suffice, passes as one row.
     pub whole-passes : length source + 64 ≤ length text → 2 * length source + 8 ≤ length errors
         → (c : Checked) → c ≡ checkedOf builtin context source (asRow source d) (take (d .text) text′) (take (2 * d .errors) errors′)
         → Accepted c
-    whole-passes text-room error-room c is = go (stops-with context source)
-      where
-        text-there : take (length (whole .text)) (sets text 0 (whole .text)) ≡ whole .text
-        text-there = take-written text (whole .text) (length (whole .text)) refl (omega (arith, rooms-suffice context source .0))
-
-        errors-there : take (2 * length (whole .errors)) (sets errors 0 (numbers (whole .errors))) ≡ numbers (whole .errors)
-        errors-there =
-            take-written errors (numbers (whole .errors)) (2 * length (whole .errors)) (omega (arith, numbers-length (whole .errors)))
-            (omega (arith, rooms-suffice context source .1))
-
-        passes : (answer place : ℕ)
-            → (d ≡ decoded answer (length (whole .text)) (length (whole .errors)) place) × (text′ ≡ sets text 0 (whole .text))
-            × (errors′ ≡ sets errors 0 (numbers (whole .errors)))
-            → (if eqb answer context-end then place else length source) ≡ length (covered context source) → Accepted c
-        passes answer place w covers = one-row-passes _ covers c (is ∙ rw (w .0, w .1, w .2, text-there, errors-there))
-
-        go : OneOf (stopOf context source .answer) → Accepted c
-        go (inl e) =
-            passes done 0
-            (whole-answers.line-0 laid-plainly (length errors) context source text errors d text′ errors′ decodes .so
-            (short, (text-room, error-room), e))
-            (omega (arith, covered-length, stop-done context source e))
-        go (inr (inl e)) = no-way (sym (rw e at reads))
-        go (inr (inr (inl e))) = no-way (sym (rw e at reads))
-        go (inr (inr (inr e))) =
-            passes context-end (stopOf context source .place)
-            (whole-answers.line-7 laid-plainly (length errors) context source text errors d text′ errors′ decodes .so
-            (short, (text-room, error-room), e))
-            (sym covered-length)
+    whole-passes text-room error-room c is =
+        let r = read-as-row laid-plainly (length errors) text errors d text′ errors′ decodes (text-room, error-room) in
+        let errors-there : take (2 * length (whole .errors)) (sets errors 0 (numbers (whole .errors))) ≡ numbers (whole .errors) =
+        take-written errors (numbers (whole .errors)) (2 * length (whole .errors)) (omega (arith, numbers-length (whole .errors)))
+        (omega (arith, rooms-suffice context source .1)) in
+        one-row-passes _ refl c (is ∙ rw (r .0, r .2, r .1, r .3, errors-there))
