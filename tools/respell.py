@@ -114,8 +114,29 @@ def turn(text, new, mark):
     return "\n".join(out)
 
 
+IMPORT = re.compile(r"(?m)^(?:pub )?(?:ghost )?use ([^\s{};]+)\.\{([^}]*)\}")
+
+
+def from_library(text, own):
+    """The names that a file imports from the library."""
+    names = set()
+    for module, items in IMPORT.findall(text):
+        if not re.match(r"Rattle\.(" + "|".join(own) + r")\.", module):
+            names |= {re.split(r"\s+as\s+", i.strip())[0] for i in items.split(",")}
+    return names
+
+
+def through_alias(text, own, new, theirs):
+    """A name that the library has too, where it is cited through an alias of a module of this repository."""
+    for alias in re.findall(r"(?m)^(?:ghost )?use Rattle\.(?:" + "|".join(own) + r")\.\S+ as (\w+)", text):
+        for a in theirs & set(new):
+            text = re.sub(r"(?<![\w.])" + alias + r"\." + re.escape(a) + r"(?![\w'?-])", alias + "." + new[a], text)
+    return text
+
+
 def main(argv):
     root = "."
+    own = sorted(os.listdir(os.path.join(root, "crates")))
     words, lemmas = declared(root)
     new = respelled(words, lemmas)
     taken = {}
@@ -133,7 +154,9 @@ def main(argv):
         it = text
         for _, to, pattern, where in FIELDS:
             it = pattern.sub(to, it) if where.search(path) else it
-        it = turn(it, new, "--" if path.endswith(".antt") else "//")
+        theirs = from_library(text, own)
+        it = turn(it, {a: b for a, b in new.items() if a not in theirs}, "--" if path.endswith(".antt") else "//")
+        it = through_alias(it, own, new, theirs)
         if it != text:
             with open(path, "w", encoding="utf-8") as f:
                 f.write(it)

@@ -2,7 +2,7 @@
 use Prim.Native.Nat.{ℕ, zero, suc, ◌+◌, ◌*◌, ◌/◌, ◌≤◌, ◌<◌}
 use mathlib.Core.Path.{◌≡◌, refl, sym, ◌∙◌, ap, subst}
 use mathlib.Core.List.{List, [], ◌∷◌, ◌++◌}
-use mathlib.Core.Bool.{Bool, true, false, ◌&&◌, and_true, and-false, and_assoc, and-eq-true_iff}
+use mathlib.Core.Bool.{Bool, true, false, ◌&&◌, and-true, and-false, and_assoc, and-eq-true_iff}
 use mathlib.Core.Logic.{◌≢◌, ⊎_elim}
 use native.Mathlib.Omega.{arith}
 use types.Run.{OneOf, miss}
@@ -57,7 +57,7 @@ module _ {met : Met} {l : List ℕ} (there : met.at ≤ length l) where
   -- Nothing comes.
   pub meets_none : Meets met [] l met
   unfolding stands
-  meets_none = record { right_is = sym (and_true met.right); at_is = λ e. omega arith; there = there }
+  meets_none = record { right_is = sym (and-true met.right); at_is = λ e. omega arith; there = there }
 
   -- What was wrong stays wrong.
   pub meets_over : (values : List ℕ) → met.right ≡ false → Meets met values l met
@@ -119,7 +119,7 @@ stands_read s c e =
 -- A number is next, or it is not.
 pub stands-number : (l : List ℕ) (at n : ℕ) → at < length l → stands (n ∷ []) (drop at l) ≡ eqb n (get_or l at 0)
 unfolding stands
-stands-number l at n h = rw (drop-cons l at 0 h) (and_true (eqb n (get_or l at 0)))
+stands-number l at n h = rw (drop-cons l at 0 h) (and-true (eqb n (get_or l at 0)))
 
 -- None is next at the end.
 pub stands-nothing : (l : List ℕ) (at n : ℕ) → length l ≤ at → stands (n ∷ []) (drop at l) ≡ false

@@ -3,7 +3,7 @@ use Prim.Native.Nat.{ℕ, ◌+◌, ◌-◌, ◌≤◌, ◌<◌}
 use Prim.Native.Char.{code}
 use mathlib.Core.Path.{◌≡◌, sym, ◌∙◌}
 use mathlib.Core.List.{List, [], ◌∷◌}
-use mathlib.Core.Bool.{Bool, true, false, ◌&&◌, and_true, and-false}
+use mathlib.Core.Bool.{Bool, true, false, ◌&&◌, and-true, and-false}
 use mathlib.Core.Logic.{◌≢◌}
 use native.Mathlib.Omega.{arith}
 use native.Mathlib.Numerals.{add-one}
@@ -36,7 +36,7 @@ module _ (s : List ℕ) (at : ℕ) (passed : Skipping alphanumeric s 0 at) where
   module _ (there : at < length s) (other : alphanumeric (get_or s at 0) ≡ false) where
     -- They end at a `;`.
     pub unknown_closed : get_or s at 0 ≡ code ";" → ltb 0 at ≡ unknown_name s
-    unknown_closed e = rw (unknown_there (stopped_at there other), next_at _ s at there, e, and_true)
+    unknown_closed e = rw (unknown_there (stopped_at there other), next_at _ s at there, e, and-true)
 
     -- They end at another byte.
     pub unknown_other : get_or s at 0 ≢ code ";" → false ≡ unknown_name s

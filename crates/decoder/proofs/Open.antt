@@ -3,7 +3,7 @@ use Prim.Native.Nat.{ℕ, zero, suc, ◌+◌, ◌-◌, ◌≤◌, ◌<◌, min}
 use Prim.Native.Char.{code}
 use mathlib.Core.Path.{◌≡◌, refl, sym, ◌∙◌, ap, ap₂, subst}
 use mathlib.Core.List.{List, [], ◌∷◌, ◌++◌}
-use mathlib.Core.Bool.{Bool, true, false, not, ◌||◌, ◌&&◌, and_true, and-false}
+use mathlib.Core.Bool.{Bool, true, false, not, ◌||◌, ◌&&◌, and-true, and-false}
 use mathlib.Core.Logic.{inl, inr, ⊎_elim}
 use native.Mathlib.Omega.{arith}
 use lib.Dec.{ltb, eqb}
@@ -79,7 +79,7 @@ pub hex_spells : (k : ℕ) (s : List ℕ) → k ≤ length s
     → is_hex_intro (take k s) ≡ eqb k 3 && (eqb (get_or s 0 0) (code "&") && (eqb (get_or s 1 0) (code "#") && is_x (get_or s 2 0)))
 hex_spells k s h =
     rw (same-spells k s (code "&" ∷ code "#" ∷ code "x" ∷ []) h, same-spells k s (code "&" ∷ code "#" ∷ code "X" ∷ []) h)
-    (rw (and_true (eqb (get_or s 2 0) (code "x")), and_true (eqb (get_or s 2 0) (code "X")))
+    (rw (and-true (eqb (get_or s 2 0) (code "x")), and-true (eqb (get_or s 2 0) (code "X")))
     (go (eqb k 3) (eqb (get_or s 0 0) (code "&")) (eqb (get_or s 1 0) (code "#")) (eqb (get_or s 2 0) (code "x")) (eqb (get_or s 2 0) (code "X"))))
   where
     go : (a b d x y : Bool) → (a && (b && (d && x)) || a && (b && (d && y))) ≡ a && (b && (d && (x || y)))
@@ -145,7 +145,7 @@ closed-by-last h some e =
         let w = begins-some builtin (g ++ code ";" ∷ []) b in
         let al = before_last w.0.word g (code ";") (tidy_name builtin builtin_tidy w.1).1 w.2 in
         let long = closed-length builtin g builtin_tidy al b in
-        and_true (eqb (longest builtin h).len (length h))
+        and-true (eqb (longest builtin h).len (length h))
         ∙ eq-eqb (longest builtin h).len (length h) (ap (λ (l : List ℕ). (longest builtin l).len) is ∙ long ∙ ap length (sym is))
 
 -- A beginning of a built-in name is held exactly if its last byte is no `;`.
@@ -176,7 +176,7 @@ name-some (suc (suc k)) (c ∷ s) two there =
     let less : suc (suc k) - 1 ≡ suc k = omega arith in
     let last : get_or h (length h - 1) 0 ≡ get_or s k 0 =
     ap (λ (i : ℕ). get_or h i 0) (let e : length h - 1 ≡ k = omega (arith, n) in e) ∙ get_or-take (suc k) s k 0 (omega arith) in
-    rw (less, lt-ltb 0 (length h) (omega (arith, n)), and_true (eqb c (code "&")), held-by-last h (omega (arith, n)), last)
+    rw (less, lt-ltb 0 (length h) (omega (arith, n)), and-true (eqb c (code "&")), held-by-last h (omega (arith, n)), last)
 
 -- `&#x` or `&#X`, as a list with its letter.
 hex_intro : (s : List ℕ) → is_hex_intro s ≡ true → (letter : ℕ) × (is_x letter ≡ true) × (s ≡ code "&" ∷ code "#" ∷ letter ∷ [])
@@ -269,7 +269,7 @@ fits_count (BogusName q) f = omega arith
 -- `&#x` or `&#X` by its letter.
 intro_hex : (letter : ℕ) → is_x letter ≡ true → is_hex_intro (code "&" ∷ code "#" ∷ letter ∷ []) ≡ true
 unfolding stands
-intro_hex letter e = rw (and_true (eqb letter (code "x")), and_true (eqb letter (code "X"))) e
+intro_hex letter e = rw (and-true (eqb letter (code "x")), and-true (eqb letter (code "X"))) e
 
 -- The store of a state within the limits is what the state says.
 fits-holds : (st : St) → Fits st → holds builtin (kind_of st) (store_of st) ≡ true

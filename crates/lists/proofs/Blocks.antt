@@ -2,7 +2,7 @@
 use Prim.Native.Nat.{ℕ, ◌+◌, ◌<◌}
 use mathlib.Core.Path.{◌≡◌, refl}
 use mathlib.Core.List.{List, [], ◌∷◌, ◌++◌}
-use mathlib.Core.Bool.{Bool, true, false, ◌&&◌, and_true}
+use mathlib.Core.Bool.{Bool, true, false, ◌&&◌, and-true}
 use native.Mathlib.Omega.{arith}
 use native.Mathlib.Numerals.{add-one}
 use lib.ListN.{length, get_or, take, drop, set, length-drop}
@@ -21,7 +21,7 @@ taken_more l s at i h there e = rw (take_more s at i there, add-one i, take-suc-
 
 -- Every element passes with one more after them exactly if they pass and it does.
 every_snoc : (p : ℕ → Bool) (s : List ℕ) (b : ℕ) → every p (s ++ b ∷ []) ≡ every p s && p b
-every_snoc p [] b = and_true (p b)
+every_snoc p [] b = and-true (p b)
 every_snoc p (c ∷ s) b = rw (every_snoc p s b) (go (p c))
   where
     go : (t : Bool) → t && (every p s && p b) ≡ t && every p s && p b

@@ -1,6 +1,6 @@
 -- noncharacter is what the definition says: below the first range there is none, and past it the low 16 bits decide.
 use Prim.Native.Nat.{◌%◌}
-use mathlib.Core.Bool.{and_true}
+use mathlib.Core.Bool.{and-true}
 use mathlib.Core.Path.{sym}
 use native.Mathlib.Omega.{arith}
 use borrow.Author.Tests.{lt-leb, le-leb}
@@ -19,7 +19,7 @@ returns-2 c = search tests
 returns-3 : tie.Need-returns-3
 returns-3 c =
     let n = c.before.before.args.c in
-    rw (le-leb 0xFDD0 n (omega arith), lt-leb n 0xFDEF (omega arith), le-leb (n % 0x10000) 0xFFFF (omega arith)) (sym (and_true _))
+    rw (le-leb 0xFDD0 n (omega arith), lt-leb n 0xFDEF (omega arith), le-leb (n % 0x10000) 0xFFFF (omega arith)) (sym (and-true _))
 
 pub noncharacter-spec : {M : Type 1} → statement M
 noncharacter-spec = tie.close (tie.spec returns returns-2 returns-3)

@@ -1,6 +1,6 @@
 use mathlib.Core.Path.{◌≡◌, sym, ◌∙◌}
 use mathlib.Core.List.{[], ◌∷◌}
-use mathlib.Core.Bool.{and_true}
+use mathlib.Core.Bool.{and-true}
 use native.Mathlib.Omega.{arith}
 use lib.ListN.{length}
 use borrow.Author.Tests.{ne_eqb}
@@ -26,7 +26,7 @@ unfolding holds
 returns-2 c =
     let a = c.before.args in
     let n : length a.t1 ≡ 32 = search rules in
-    sym (same-spells a.count a.t1 (38 ∷ []) (omega arith) ∙ rw c.if1.false (and_true _))
+    sym (same-spells a.count a.t1 (38 ∷ []) (omega arith) ∙ rw c.if1.false (and-true _))
 
 pub is-begin-spec : {M : Type 1} → statement M
 is-begin-spec = tie.close (tie.spec returns array-read-result returns-2)

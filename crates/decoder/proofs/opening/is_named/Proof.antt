@@ -1,7 +1,7 @@
 use Prim.Native.Nat.{ℕ, ◌-◌}
 use mathlib.Core.Path.{◌≡◌, sym, ◌∙◌, ap}
 use mathlib.Core.List.{List}
-use mathlib.Core.Bool.{not, ◌&&◌, and_true, and-false}
+use mathlib.Core.Bool.{not, ◌&&◌, and-true, and-false}
 use native.Mathlib.Omega.{arith}
 use lib.Dec.{eqb}
 use lib.ListN.{length, get_or, take, drop}
@@ -65,7 +65,7 @@ returns-4 c =
     let e : c.begins-name.result ≡ begins builtin h =
     c.begins-name.ensures ∙ ap (λ (l : List ℕ). begins (records l) h) d.requires.0 ∙ ap (λ (names : List Name). begins names h) table-read in
     let m : begins builtin h && not (eqb (get_or a.t2 (a.count - 1) 0) 59) ≡ begins builtin h =
-    rw (ne_eqb _ _ c.before.before.before.if3.false) (and_true (begins builtin h)) in
+    rw (ne_eqb _ _ c.before.before.before.if3.false) (and-true (begins builtin h)) in
     e ∙ sym (name-some a.count a.t2 (omega arith) (omega arith) ∙ rw c.before.before.before.before.if2.false m)
 
 pub is-named-spec : {M : Type 1} → statement M

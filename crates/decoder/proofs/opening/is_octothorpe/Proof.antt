@@ -1,6 +1,6 @@
 use mathlib.Core.Path.{◌≡◌, sym, ◌∙◌}
 use mathlib.Core.List.{[], ◌∷◌}
-use mathlib.Core.Bool.{and_true}
+use mathlib.Core.Bool.{and-true}
 use native.Mathlib.Omega.{arith}
 use lib.ListN.{length}
 use borrow.Author.Tests.{ne_eqb}
@@ -36,7 +36,7 @@ unfolding holds
 returns-3 c =
     let a = c.before.before.args in
     let n : length a.t1 ≡ 32 = search rules in
-    sym (same-spells a.count a.t1 (38 ∷ 35 ∷ []) (omega arith) ∙ rw (c.before.if1.false, c.if2.false) (and_true _))
+    sym (same-spells a.count a.t1 (38 ∷ 35 ∷ []) (omega arith) ∙ rw (c.before.if1.false, c.if2.false) (and-true _))
 
 pub is-octothorpe-spec : {M : Type 1} → statement M
 is-octothorpe-spec =
