@@ -1,4 +1,6 @@
 // The bench program: reads standard input, and writes what `reporting` makes of it.
+#![tactic(auto)]
+
 use libc::{STDIN_FILENO, STDOUT_FILENO};
 use reporting::{INPUT_ROOM, NUMBERS_ROOM, REPORT_ROOM};
 

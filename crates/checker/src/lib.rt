@@ -1,4 +1,6 @@
 // Checking: a transcript of a source, judged without the decoder.
+#![tactic(auto)]
+
 mod blocks;
 mod checking;
 mod classes;

@@ -1,5 +1,7 @@
 // An example of the stream: decodes text from standard input in chunks, with rooms that are soon full, and writes a line for each call. What it must
 // write for its stdin is made from a model of document 01 (tests/chunks.py).
+#![tactic(auto)]
+
 ghost use Rattle.std.specs.Prelude.{◌+◌, ◌*◌, ◌≤◌, ◌≡◌, length};
 
 use decoder::{Fed, Stream};

@@ -1,4 +1,6 @@
 // Decoding: a source to text and errors.
+#![tactic(auto)]
+
 mod classes;
 mod feeding;
 mod numbers;

@@ -1,4 +1,6 @@
 // Escaping: text or an attribute value with its special characters replaced. `write_escaped` of serialize/mod.rs.
+#![tactic(auto)]
+
 ghost use Rattle.escaper.specs.Escape.{Escapes};
 
 mod results;

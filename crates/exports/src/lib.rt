@@ -1,4 +1,6 @@
 // The functions for C: each answers 5 to wrong use, and else calls one function and reports what that answers.
+#![tactic(auto)]
+
 ghost use Rattle.std.specs.Prelude.{◌≡◌, ◌∷◌, [], length};
 ghost use Rattle.std.proofs.lemmas.List.Edits.{sets};
 ghost use Rattle.lists.specs.Bytes.{fours};

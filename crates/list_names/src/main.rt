@@ -1,4 +1,6 @@
 // Writes each built-in name as the lookup finds it: the name and its characters in hexadecimal, one line each.
+#![tactic(auto)]
+
 use libc::STDOUT_FILENO;
 use standard::names::CharRef;
 

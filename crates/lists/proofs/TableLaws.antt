@@ -40,6 +40,7 @@ other_than n (l ∷ lines) o (inr k) e = other_than n lines (and_true (not (eqb 
 module _ {answer : ℕ} where
   -- The answer of the condition that holds.
   one : {lines : List Line} → Gives answer lines → Some lines → OneOf answer lines
+  one none w = elim w [ ]
   one (g and gs) (inl w) = inl (g w).0
   one (g and gs) (inr s) = inr (one gs s)
 
@@ -54,6 +55,7 @@ module _ {answer : ℕ} where
 
   -- Where one condition holds, its line alone is given.
   each_kept : {lines : List Line} → distinct lines ≡ true → Gives answer lines → Some lines → EachKept answer lines
+  each_kept d none w = elim w [ ]
   each_kept d (◌and◌ {l} {lines} g gs) (inl w) =
       let k = and_true (other l.number lines) (distinct lines) d in
       (keep g (λ e. w), vain gs (λ o. other_than l.number lines k.0 o (g w).0))
@@ -79,5 +81,6 @@ pub holds : {answer : ℕ} {lines : List Line} → Table answer lines → Holds 
 holds {answer} {lines} t = go lines t.each t.no_other
   where
     go : (lines : List Line) → EachKept answer lines → OneOf answer lines → Holds answer lines
+    go [] e w = elim w [ ]
     go (l ∷ lines) e (inl k) = let w = e.0.only k in inl (k, w, e.0.so w)
     go (l ∷ lines) e (inr k) = inr (go lines e.1 k)

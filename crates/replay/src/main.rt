@@ -1,6 +1,8 @@
 // Replays calls: lists of records come in, and a line for each record goes out. Before a list stand its letter and, in four bytes, its length: W for
 // whole calls (tests/replay_whole.py has the forms of records and lines), S for the stream (tests/replay_stream.py), B for the bench program's inputs
 // (tests/replay_bench.py), whose reports follow their lines, R for the Rust's sample (oracle/sample). What can't be replayed has a line that says so.
+#![tactic(auto)]
+
 mod checks;
 mod lines;
 mod marks;

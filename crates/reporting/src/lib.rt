@@ -1,4 +1,6 @@
 // What the bench program writes, as a function of what it reads.
+#![tactic(auto)]
+
 ghost use Rattle.std.specs.Prelude.{◌≡◌, ◌∷◌, [], ◌≤◌, length};
 ghost use Rattle.standard.specs.Names.{stands};
 ghost use Rattle.standard.specs.Utf8.{bytes};

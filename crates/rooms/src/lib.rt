@@ -1,4 +1,6 @@
 // Writing into lent rooms of bytes.
+#![tactic(auto)]
+
 ghost use Rattle.std.specs.Prelude.{◌≡◌, ◌∷◌, [], ◌≤◌, ◌<◌, ◌+◌, ◌-◌, ◌/◌, ◌%◌, min, length, take, drop};
 ghost use Rattle.lists.specs.Bytes.{four_bytes, fours};
 ghost use Rattle.lists.specs.Rooms.{Put};

@@ -1,5 +1,7 @@
 // Runs: stretches of bytes of one kind, which need no look at each character. They are tested in blocks, whose loop has no early end, so that it is
 // done many bytes at a time.
+#![tactic(auto)]
+
 ghost use Rattle.std.specs.Prelude.{◌≡◌, ◌≤◌, ◌+◌, length, take, drop};
 ghost use Rattle.lists.specs.Notation.{front, every};
 ghost use Rattle.runs.specs.Kinds as spec;

@@ -1,5 +1,5 @@
 -- Sources at the edges of document 01's rules, as one table, and the theorem that the definitions give exactly these.
-use mathlib.Core.Path.{◌≡◌, refl}
+use mathlib.Core.Path.{refl}
 use mathlib.Core.List.{List, [], ◌∷◌}
 use Rattle.standard.specs.declared.Context.TheVariants.{Text, Attribute}
 use Rattle.standard.specs.Answers.{ill_formed, nul}

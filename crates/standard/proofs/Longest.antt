@@ -21,7 +21,7 @@ unfolding longer
 longer-most found n s =
     if_both Most (ltb found.len (length n.word) && stands n.word s) _ _
     (λ t. (omega (facts, (and_true (ltb found.len (length n.word)) (stands n.word s) t).0), λ e. omega arith))
-    (λ f. (omega arith, λ e. omega (facts, rw (e, Bool.and_true) at f)))
+    (λ f. (omega arith, λ e. omega (facts, rw (e, Bool.and-true) at f)))
   where
     Most : Found → Type 0
     Most f = (found.len ≤ f.len) × (stands n.word s ≡ true → length n.word ≤ f.len)

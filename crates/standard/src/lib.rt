@@ -1,4 +1,6 @@
 // What other crates share, decoder and checker nothing beside: the contexts, the reader of one character, and the names.
+#![tactic(auto)]
+
 pub mod characters;
 pub mod names;
 pub mod table;
