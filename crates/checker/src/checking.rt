@@ -11,7 +11,7 @@ use standard::Context;
 use standard::table::builtin_names;
 
 // The answer; with 0 the verdict, 0 or a reason from 1 to 5 for a to e, and the row; with 1 and 2 the place.
-#[derive(Drop)]
+#[derive(Clone, Copy)]
 pub struct Checked {
     pub answer: u32,
     pub verdict: u32,

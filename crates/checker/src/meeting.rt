@@ -12,7 +12,7 @@ use standard::characters::{CharRead, read_char};
 use standard::names::CharRef;
 
 // Whether all that should come came, and the place after the last that did.
-#[derive(Drop)]
+#[derive(Clone, Copy)]
 pub(crate) struct Met {
     pub right: bool,
     pub at: usize,

@@ -14,7 +14,7 @@ use standard::characters::{CharRead, read_char};
 use standard::names::{CharRef, longest_name};
 
 // How many source bytes a piece has, its characters, whether it lacks its `;`, and the code of its other error or 0.
-#[derive(Drop)]
+#[derive(Clone, Copy)]
 pub(crate) struct Piece {
     pub size: usize,
     pub reference: CharRef,

@@ -6,7 +6,7 @@ ghost use Rattle.standard.specs.Numbers.{is_digit, number, replacements, replace
 use crate::classes::{digit_of, noncharacter, peek};
 
 // Digits that were read: the place after them, and their number, or the first past the last code point where it is larger.
-#[derive(Drop)]
+#[derive(Clone, Copy)]
 pub(crate) struct Digits {
     pub end: usize,
     pub value: u32,
@@ -80,7 +80,7 @@ fn c1(n: u32) -> u32
 }
 
 // What a number means: a character, and the code of an error or 0.
-#[derive(Drop)]
+#[derive(Clone, Copy)]
 pub(crate) struct Meant {
     pub char: u32,
     pub code: u32,

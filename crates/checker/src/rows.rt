@@ -13,7 +13,7 @@ use crate::spans::{alike, alike_run};
 use standard::Context;
 
 // The pieces of a row: the place after them, and their text and errors as they were met.
-#[derive(Drop)]
+#[derive(Clone, Copy)]
 pub(crate) struct Joint {
     pub at: usize,
     pub text: Met,
@@ -105,7 +105,7 @@ fn meet_pieces(
 }
 
 // Why a row is wrong, or 0, and then the places after it.
-#[derive(Drop)]
+#[derive(Clone, Copy)]
 pub(crate) struct Judged {
     pub reason: u32,
     pub at: usize,

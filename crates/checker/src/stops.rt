@@ -9,7 +9,7 @@ use standard::Context;
 use standard::characters::{CharRead, read_char};
 
 // Why reading stops, and after how many bytes.
-#[derive(Drop)]
+#[derive(Clone, Copy)]
 pub(crate) struct Stopped {
     pub answer: u32,
     pub place: usize,

@@ -10,7 +10,7 @@ use crate::rows::judge_row;
 use standard::Context;
 
 // A reason, or 0, and a row.
-#[derive(Drop)]
+#[derive(Clone, Copy)]
 pub(crate) struct Verdict {
     pub reason: u32,
     pub row: u32,

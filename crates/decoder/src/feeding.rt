@@ -21,7 +21,7 @@ use standard::Context;
 use standard::characters::{CharRead, read_char};
 
 // What a walk over a chunk comes to: its answer, the record of where it ended, and the places after what was written.
-#[derive(Drop)]
+#[derive(Clone, Copy)]
 pub(crate) struct Walked {
     pub answer: u32,
     pub record: Stream,
@@ -54,7 +54,7 @@ fn put_turn(
 }
 
 // What is held then, and the places after what was written.
-#[derive(Drop)]
+#[derive(Clone, Copy)]
 struct Met {
     held: Held,
     text: usize,
@@ -254,7 +254,7 @@ fn take_byte(
 }
 
 // How far a chunk was read, with the record there and the places after what was written.
-#[derive(Drop)]
+#[derive(Clone, Copy)]
 struct Ahead {
     record: Stream,
     at: usize,

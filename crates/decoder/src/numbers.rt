@@ -49,7 +49,7 @@ pub(crate) fn add_digit(value: u32, base: u32, digit: u32) -> u32
 }
 
 // Digits that were read: the place after them, and their number, or the first past the last code point where it is larger.
-#[derive(Drop)]
+#[derive(Clone, Copy)]
 pub(crate) struct Digits {
     pub end: usize,
     pub value: u32,
@@ -95,7 +95,7 @@ pub(crate) fn replacement(n: u32) -> u32
 }
 
 // What a number means: a character, and the code of an error or 0.
-#[derive(Drop)]
+#[derive(Clone, Copy)]
 pub(crate) struct Meant {
     pub char: u32,
     pub code: u32,

@@ -14,7 +14,7 @@ use standard::characters::CharRead;
 use standard::names::{CharRef, Found, longest_name};
 
 // How many source bytes a piece has, its characters, and its codes, each 0 where there is none.
-#[derive(Drop)]
+#[derive(Clone, Copy)]
 pub(crate) struct Piece {
     pub size: usize,
     pub reference: CharRef,

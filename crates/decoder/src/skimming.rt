@@ -24,7 +24,7 @@ fn least(a: usize, b: usize) -> usize
 }
 
 // The place in the chunk up to which it was read, and the place after its text.
-#[derive(Drop)]
+#[derive(Clone, Copy)]
 pub(crate) struct Copied {
     pub at: usize,
     pub text: usize,

@@ -15,7 +15,7 @@ use standard::Context;
 use standard::table::builtin_names;
 
 // CharRefTokenizer's states, with data around them.
-#[derive(Drop)]
+#[derive(Clone, Copy)]
 pub enum State {
     // Nothing is held; nothing after a CR, whose LF is to be passed over.
     Data,
@@ -34,7 +34,7 @@ pub enum State {
 }
 
 // What is held: the state, the place of its `&`, and the first count bytes of the store.
-#[derive(Drop)]
+#[derive(Clone, Copy)]
 pub struct Held {
     pub state: State,
     pub place: u32,
@@ -43,7 +43,7 @@ pub struct Held {
 }
 
 // A stream between two calls: its context, what is held, the first part_count bytes of an incomplete character, and how many bytes were taken.
-#[derive(Drop)]
+#[derive(Clone, Copy)]
 pub struct Stream {
     pub context: Context,
     pub held: Held,
@@ -53,7 +53,7 @@ pub struct Stream {
 }
 
 // What a call answers: a number, bytes taken, text bytes and errors written, a place, and the record.
-#[derive(Drop)]
+#[derive(Clone, Copy)]
 pub struct Fed {
     pub answer: u32,
     pub taken: u32,

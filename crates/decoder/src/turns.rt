@@ -17,7 +17,7 @@ use standard::names::{CharRef, begins_name, longest_name};
 
 // What a character does: the piece that is released of what is held, which the store's bytes from the piece's size on follow; the character itself,
 // as a piece; and what is held then.
-#[derive(Drop)]
+#[derive(Clone, Copy)]
 pub(crate) struct Turn {
     pub released: Piece,
     pub own: Piece,

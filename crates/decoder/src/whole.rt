@@ -15,7 +15,7 @@ use standard::Context;
 use standard::table::builtin_names;
 
 // The answer, text bytes written (or asked for, with 9), errors written, and place.
-#[derive(Drop)]
+#[derive(Clone, Copy)]
 pub struct Decoded {
     pub answer: u32,
     pub text: u32,

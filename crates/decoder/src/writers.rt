@@ -123,14 +123,14 @@ pub(crate) fn put_codes(errors: &mut [u32], at: usize, first: u32, second: u32, 
 }
 
 // The places after what was written: in the text room, and in the error room.
-#[derive(Drop)]
+#[derive(Clone, Copy)]
 pub(crate) struct Written {
     pub text: usize,
     pub errors: usize,
 }
 
 // The place up to which was read, and the places after what was written.
-#[derive(Drop)]
+#[derive(Clone, Copy)]
 pub(crate) struct Reached {
     pub at: usize,
     pub text: usize,

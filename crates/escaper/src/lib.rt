@@ -8,14 +8,14 @@ mod specials;
 mod stops;
 
 // What is escaped: text, or the value of an attribute in quotation marks.
-#[derive(Drop)]
+#[derive(Clone, Copy)]
 pub enum Mode {
     Text,
     Attribute,
 }
 
 // The answer, the length of the result (with 0 and 9), and the place of a fault.
-#[derive(Drop)]
+#[derive(Clone, Copy)]
 pub struct Escaped {
     pub answer: u32,
     pub text: u32,

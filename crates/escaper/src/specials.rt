@@ -4,7 +4,7 @@ ghost use Rattle.lists.specs.Rooms.{Put};
 ghost use Rattle.escaper.specs.Walk.{special_of, source_length, text_of};
 
 // A character that is replaced, or another one of two bytes.
-#[derive(Drop)]
+#[derive(Clone, Copy)]
 pub(crate) enum Special {
     Amp,
     Lt,

@@ -5,7 +5,7 @@ ghost use Rattle.escaper.specs.Escape.{escape_stop};
 use standard::characters::CharRead;
 
 // The answer, 0 or 1, and how many bytes stand before that place.
-#[derive(Drop)]
+#[derive(Clone, Copy)]
 pub(crate) struct Stopped {
     pub(crate) answer: u32,
     pub(crate) place: usize,

@@ -13,7 +13,7 @@ pub(crate) const HEAD: usize = 17;
 
 // What is replayed, the rooms that its calls are lent, how many bytes follow the head, how many of them stand before the source's own, and how many
 // the source has with those that fill it up.
-#[derive(Drop)]
+#[derive(Clone, Copy)]
 pub(crate) struct Head {
     pub kind: u8,
     pub text: usize,

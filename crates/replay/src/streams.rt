@@ -12,7 +12,7 @@ fn context_letter(context: Context) -> u8 {
 }
 
 // A state's letter, and the base and the value of a number.
-#[derive(Drop)]
+#[derive(Clone, Copy)]
 struct Letter {
     letter: u8,
     base: u32,

@@ -7,7 +7,7 @@ ghost use Rattle.lists.specs.Notation.{front, every};
 ghost use Rattle.runs.specs.Kinds as spec;
 
 // Kinds of bytes. A byte that a kind carries is left out of it too.
-#[derive(Drop)]
+#[derive(Clone, Copy)]
 enum Kind {
     Ascii,
     Ordinary(u8),

@@ -3,7 +3,7 @@ ghost use Rattle.std.specs.Prelude.{◌≡◌, ◌≤◌, ◌<◌, length, drop}
 ghost use Rattle.standard.specs.Utf8.{read_char, lead_of, tails};
 
 // What stands at the front of some bytes.
-#[derive(Drop)]
+#[derive(Clone, Copy)]
 pub enum CharRead {
     // A whole character: its value, and how many bytes it has.
     Char { value: u32, len: usize },
@@ -16,7 +16,7 @@ pub enum CharRead {
 }
 
 // What a first byte says: how many bytes follow it, the range of the next one, and the bits that it gives.
-#[derive(Drop)]
+#[derive(Clone, Copy)]
 enum Lead {
     Bad,
     Good {

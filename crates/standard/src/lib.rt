@@ -6,7 +6,7 @@ pub mod names;
 pub mod table;
 
 // Where a source stands in a page: its end and the rule for names without `;` go by this.
-#[derive(Drop)]
+#[derive(Clone, Copy)]
 pub enum Context {
     Text,
     Attribute,

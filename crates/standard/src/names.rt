@@ -5,7 +5,7 @@ ghost use Rattle.lists.specs.Bytes.{word32};
 ghost use Rattle.standard.specs.Names.{char_ref, stands, longer, longest, begins, record_at, records};
 
 // The characters that a reference stands for: the first num_chars of chars.
-#[derive(Drop)]
+#[derive(Clone, Copy)]
 pub struct CharRef {
     pub chars: [u32; 2],
     pub num_chars: u8,
@@ -36,7 +36,7 @@ impl CharRef {
 }
 
 // A name that was found, with its length and its characters; length 0 and EMPTY where none was.
-#[derive(Drop)]
+#[derive(Clone, Copy)]
 pub struct Found {
     pub len: usize,
     pub reference: CharRef,
