@@ -5,8 +5,6 @@ use mathlib.Core.List.{List, [], ◌∷◌, ◌++◌}
 use mathlib.Core.Bool.{Bool, true, false, ◌&&◌, and-true, and-false, and_assoc, and-eq-true_iff}
 use mathlib.Core.Logic.{◌≢◌, ⊎_elim}
 use native.Mathlib.Omega.{arith}
-use types.Run.{OneOf, miss}
-use denote.Enum.Declared.{tag_of}
 use lib.Dec.{eqb}
 use lib.ListN.{length, get_or, take, drop, length-append, length-drop, length-take, drop_of_length-le}
 use lib.Seq.{drop-drop, drop-cons, get_or-drop}
@@ -15,7 +13,6 @@ use Rattle.lists.specs.Bytes.{word32, words}
 use Rattle.lists.proofs.Choice.{if_both, no_way, test?}
 use Rattle.standard.specs.declared.characters.CharRead.{CharRead}
 use Rattle.standard.specs.declared.characters.CharRead.TheVariants.{Char}
-use Rattle.standard.specs.contracts.characters.CharRead.{the_type}
 use Rattle.standard.specs.Utf8.{read_char, written, encode}
 use Rattle.standard.specs.Names.{stands}
 use Rattle.standard.proofs.Narrow.{stands-fits}
@@ -177,10 +174,9 @@ lent-all-words [] = refl
 lent-all-words (n ∷ numbers) = rw (ne_eqb (length (n ∷ numbers)) 0 (λ z. omega arith))
 
 -- A number's bytes do not stand where no character is read.
-pub other-read : (s : List ℕ) (c : ℕ) (r : CharRead) → read_char s ≡ r → OneOf (1 ∷ 2 ∷ 3 ∷ []) (tag_of the_type r) → stands (encode c) s ≡ false
+pub other-read : (s : List ℕ) (c : ℕ) (r : CharRead) → read_char s ≡ r → ((c n : ℕ) → r ≡ Char c n → ⊥) → stands (encode c) s ≡ false
 other-read s c r e k =
-    ⊎_elim (λ t. absurd (miss (1 ∷ 2 ∷ 3 ∷ []) 0 tt
-    (subst (λ (x : CharRead). OneOf (1 ∷ 2 ∷ 3 ∷ []) (tag_of the_type x)) (sym e ∙ stands_read s c t) k)))
+    ⊎_elim (λ t. absurd (k (written c) (length (encode c)) (sym e ∙ stands_read s c t)))
     (λ f. f) (test? (stands (encode c) s))
 
 -- Nor where another one is.

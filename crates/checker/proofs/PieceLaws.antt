@@ -7,8 +7,6 @@ use mathlib.Core.Bool.{Bool, true, false, ◌||◌, ◌&&◌}
 use mathlib.Core.Logic.{◌≢◌, ⊎_elim}
 use native.Mathlib.Omega.{arith}
 use native.Mathlib.Numerals.{add-one}
-use types.Run.{OneOf, miss}
-use denote.Enum.Declared.{tag_of}
 use lib.Dec.{ltb, eqb}
 use lib.ListN.{length, get_or, take, drop, length-drop}
 use lib.Seq.{drop-drop, get_or-drop}
@@ -18,7 +16,6 @@ use Rattle.lists.proofs.Choice.{below?, or_true}
 use Rattle.standard.specs.declared.Context.{Context}
 use Rattle.standard.specs.declared.characters.CharRead.{CharRead}
 use Rattle.standard.specs.declared.characters.CharRead.TheVariants.{Char, Incomplete, Illformed, End}
-use Rattle.standard.specs.contracts.characters.CharRead.{the_type}
 use Rattle.standard.specs.declared.names.Found.{Found}
 use Rattle.standard.specs.Utf8.{octets, encode, read_char}
 use Rattle.standard.specs.Classes.{alphanumeric, character_code}
@@ -73,8 +70,8 @@ pub character-read : (s : List ℕ) {value len error : ℕ} → read_char s ≡ 
 character-read s {value} {len} {error} read e = one-is len value false error ∙ rw (read, e, (read_back s value len read).0)
 
 -- What is read and is no character is a byte without text.
-pub character-none : (s : List ℕ) (r : CharRead) → OneOf (1 ∷ 2 ∷ 3 ∷ []) (tag_of the_type r) → piece 1 [] [] ≡ character r s
-character-none s (Char c n) k = absurd (miss (1 ∷ 2 ∷ 3 ∷ []) 0 tt k)
+pub character-none : (s : List ℕ) (r : CharRead) → ((c n : ℕ) → r ≡ Char c n → ⊥) → piece 1 [] [] ≡ character r s
+character-none s (Char c n) k = absurd (k c n refl)
 character-none s (Incomplete n) k = refl
 character-none s (Illformed n) k = refl
 character-none s End k = refl

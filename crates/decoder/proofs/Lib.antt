@@ -10,7 +10,7 @@ pub mod Tidy
 pub mod Looks
 pub mod Unfolding
 pub mod Means
-pub mod Held
+pub mod Holding
 pub mod Simulates
 pub mod Running
 pub mod MachineReads

@@ -44,7 +44,7 @@ use Rattle.decoder.proofs.Looks.{looks, reference-plain, x_plain}
 use Rattle.decoder.proofs.Tidy.{Tidy, Alphanumerics, next-held}
 use Rattle.decoder.proofs.Unfolding.{read_from, read_nothing}
 use Rattle.decoder.proofs.Means.{Valid, plain-held, no_hash, Mean, crMean}
-use Rattle.decoder.proofs.Held.{number_end, bogus_end, no_digits_read, decimal_none, hexadecimal_none, ampersand_read, none_read, found_read}
+use Rattle.decoder.proofs.Holding.{number_end, bogus_end, no_digits_read, decimal_none, hexadecimal_none, ampersand_read, none_read, found_read}
 use Rattle.decoder.proofs.Simulates.{step_ok}
 
 -- Every character of a source is whole and well-formed.

@@ -50,7 +50,7 @@ use Rattle.decoder.specs.Turns.{ascii_of, name_of, Stored, NameHeld, Releases, T
 use Rattle.decoder.proofs.Looks.{own_byte, alphanumeric-ascii, equal_ascii, or_ascii}
 use Rattle.decoder.proofs.Tidy.{builtin_tidy, Alphanumerics, next-held, closed-length}
 use Rattle.decoder.proofs.Means.{unknown_rest, unknown-held, named-size, named-near}
-use Rattle.decoder.proofs.Held.{by_none, by_closed}
+use Rattle.decoder.proofs.Holding.{by_none, by_closed}
 use Rattle.decoder.proofs.TurnLaws.{
   ascii_test,
   follows_text,

@@ -63,7 +63,7 @@ use Rattle.decoder.proofs.Looks.{
 use Rattle.decoder.proofs.Tidy.{Tidy, Alphanumerics, next-held, settled, goes_on}
 use Rattle.decoder.proofs.Unfolding.{all_append, read_from, read_character}
 use Rattle.decoder.proofs.Means.{Valid, plain-held, no_hash, named-near, crMean, numMean, bogusMean, Mean, cr_read, cr_none, digits_read}
-use Rattle.decoder.proofs.Held.{
+use Rattle.decoder.proofs.Holding.{
   number_more,
   number_end,
   bogus_more,

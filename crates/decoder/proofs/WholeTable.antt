@@ -166,6 +166,7 @@ module _ {way : Way} {context : Context} {source text errors : List ℕ} {d : De
         | inr (inr (inr (inl w))) ↦ refused w.2 (omega arith) (omega arith) (omega (arith, w.1.0, near))
         | inr (inr (inr (inr (inl w)))) ↦ refused w.2 (omega arith) (omega arith) (omega (arith, w.1.0, near))
         | inr (inr (inr (inr (inr (inl w))))) ↦ read_it w.1 w.2 (omega arith) (omega (arith, w.1.0, near))
+        | inr (inr (inr (inr (inr (inr w))))) ↦ elim w [ ]
       ]
 
   -- So do the four numbers of its answer.

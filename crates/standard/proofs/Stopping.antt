@@ -4,12 +4,9 @@ use mathlib.Core.Path.{◌≡◌, refl, sym, ◌∙◌, ap}
 use mathlib.Core.List.{List, [], ◌∷◌}
 use mathlib.Core.Logic.{◌≢◌}
 use native.Mathlib.Omega.{arith}
-use types.Run.{OneOf, miss}
-use denote.Enum.Declared.{tag_of}
 use lib.ListN.{length, take, drop, length-drop}
 use Rattle.standard.specs.declared.characters.CharRead.{CharRead}
 use Rattle.standard.specs.declared.characters.CharRead.TheVariants.{Char, Incomplete, Illformed, End}
-use Rattle.standard.specs.contracts.characters.CharRead.{the_type}
 use Rattle.standard.specs.Utf8.{read_char}
 use Rattle.standard.specs.Answers.{done, ill_formed}
 use Rattle.standard.specs.Reading.{answer_to, Stop, stops, stop_from}
@@ -22,9 +19,9 @@ pub stop_is : {r : Stop} (answer place : ℕ) → r ≡ stops answer place → (
 stop_is answer place e = (sym (ap (λ (x : Stop). x.answer) e), sym (ap (λ (x : Stop). x.place) e))
 
 -- What is read and is no character calls for 1, where there is a byte.
-other-answer : (calls : ℕ → ℕ) (s : List ℕ) (r : CharRead) → read_char s ≡ r → 0 < length s → OneOf (1 ∷ 2 ∷ 3 ∷ []) (tag_of the_type r)
+other-answer : (calls : ℕ → ℕ) (s : List ℕ) (r : CharRead) → read_char s ≡ r → 0 < length s → ((c n : ℕ) → r ≡ Char c n → ⊥)
     → answer_to calls r ≡ ill_formed
-other-answer calls s (Char c n) e h k = absurd (miss (1 ∷ 2 ∷ 3 ∷ []) 0 tt k)
+other-answer calls s (Char c n) e h k = absurd (k c n refl)
 other-answer calls s (Incomplete n) e h k = refl
 other-answer calls s (Illformed n) e h k = refl
 other-answer calls s End e h k = absurd (omega (arith, end-length s e))
@@ -35,7 +32,7 @@ module _ {calls : ℕ → ℕ} {s : List ℕ} {at : ℕ} (l : Looking calls s at
   read_is = sym (reads ∙ ap read_char (rest_from s at))
 
   -- No character is read.
-  pub turn_other : OneOf (1 ∷ 2 ∷ 3 ∷ []) (tag_of the_type read)
+  pub turn_other : ((c n : ℕ) → read ≡ Char c n → ⊥)
       → (ill_formed ≡ (stop_from calls 0 0 s).answer) × (at ≡ (stop_from calls 0 0 s).place)
   turn_other k =
       let is = ap (answer_to calls) read_is

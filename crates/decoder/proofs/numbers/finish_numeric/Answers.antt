@@ -1,0 +1,53 @@
+-- finish_numeric is what meaningOf says: each test of the code is the next test of the definition.
+use mathlib.Core.Path.{◌≡◌, refl, sym, ◌∙◌}
+use mathlib.Core.Bool.{not, ◌&&◌}
+use borrow.Author.Tests.{ne_eqb}
+use Rattle.lists.specs.Notation.{if◌then◌else◌}
+use Rattle.standard.specs.Classes.{whitespace, control}
+use Rattle.standard.specs.Numbers.{replacements, replaced_by, means, meaning_of}
+use Rattle.standard.proofs.Meanings.{meaning_outside, meaning_surrogate, meaning_scalar}
+use Rattle.decoder.proofs.numbers.finish_numeric.Goals as goal
+
+pub returns-then-n-eq0 : goal.returns-then-n-eq0
+unfolding meaning_of
+returns-then-n-eq0 c = rw c.if-n-eq0.true (refl, refl)
+
+pub returns-then-n-gt1114111 : goal.returns-then-n-gt1114111
+returns-then-n-gt1114111 c = rw (meaning_outside _ c.if-n-gt1114111.true) (refl, refl)
+
+pub returns-then-n-eq27 : goal.returns-then-n-eq27
+returns-then-n-eq27 c = rw (meaning_surrogate _ c.if-n-eq27.true) (refl, refl)
+
+pub returns-then-noncharacter : goal.returns-then-noncharacter
+returns-then-noncharacter c =
+    rw (meaning_scalar _ c.if-n-eq0.false c.if-n-gt1114111.false c.if-n-eq27.false, sym c.noncharacter.ensures ∙ c.if-noncharacter.true)
+    (refl, refl)
+
+pub returns-then-n-eq13 : goal.returns-then-n-eq13
+unfolding meaning_of replacements replaced_by
+returns-then-n-eq13 c = rw c.if-n-eq13.true (refl, refl)
+
+pub returns-then-not-control : goal.returns-then-not-control
+returns-then-not-control c =
+    let of_plain : (let n = c.args.n in meaning_of n ≡ (if control n && not (whitespace n) then means (replaced_by replacements n) 3 else means n 0)) =
+        meaning_scalar _ c.if-n-eq0.false c.if-n-gt1114111.false c.if-n-eq27.false
+        ∙ rw (sym c.noncharacter.ensures ∙ c.if-noncharacter.false, ne_eqb _ 0xD c.if-n-eq13.false) in
+    rw (of_plain, sym c.control.ensures ∙ c.if-not-control.true) (refl, refl)
+
+pub returns-then-whitespace : goal.returns-then-whitespace
+returns-then-whitespace c =
+    let of_plain : (let n = c.args.n in meaning_of n ≡ (if control n && not (whitespace n) then means (replaced_by replacements n) 3 else means n 0)) =
+        meaning_scalar _ c.if-n-eq0.false c.if-n-gt1114111.false c.if-n-eq27.false
+        ∙ rw (sym c.noncharacter.ensures ∙ c.if-noncharacter.false, ne_eqb _ 0xD c.if-n-eq13.false) in
+    let of-control : (let n = c.args.n in meaning_of n ≡ (if not (whitespace n) then means (replaced_by replacements n) 3 else means n 0)) =
+        of_plain ∙ rw (sym c.control.ensures ∙ c.if-not-control.false) in
+    rw (of-control, sym c.whitespace.ensures ∙ c.if-whitespace.true) (refl, refl)
+
+pub returns : goal.returns
+returns c =
+    let of_plain : (let n = c.args.n in meaning_of n ≡ (if control n && not (whitespace n) then means (replaced_by replacements n) 3 else means n 0)) =
+        meaning_scalar _ c.if-n-eq0.false c.if-n-gt1114111.false c.if-n-eq27.false
+        ∙ rw (sym c.noncharacter.ensures ∙ c.if-noncharacter.false, ne_eqb _ 0xD c.if-n-eq13.false) in
+    let of-control : (let n = c.args.n in meaning_of n ≡ (if not (whitespace n) then means (replaced_by replacements n) 3 else means n 0)) =
+        of_plain ∙ rw (sym c.control.ensures ∙ c.if-not-control.false) in
+    rw (of-control, sym c.whitespace.ensures ∙ c.if-whitespace.false) (c.replacement.ensures, refl)

@@ -1,0 +1,25 @@
+use mathlib.Core.Path.{◌≡◌, sym, ◌∙◌}
+use mathlib.Core.List.{[], ◌∷◌}
+use mathlib.Core.Bool.{and-true}
+use native.Mathlib.Omega.{arith}
+use lib.ListN.{length}
+use borrow.Author.Tests.{ne_eqb}
+use borrow.Author.Rules.{rules}
+use Rattle.decoder.specs.Stream.{holds}
+use Rattle.decoder.proofs.Open.{same-spells}
+use borrow.Author.Rules.{rules}
+use Rattle.decoder.proofs.opening.is_begin.Goals as goal
+
+pub returns-then-count-ne1 : goal.returns-then-count-ne1
+unfolding holds
+returns-then-count-ne1 c =
+    let a = c.args in
+    let n : length a.store ≡ 32 = search rules in
+    sym (same-spells a.count a.store (38 ∷ []) (omega arith) ∙ rw (ne_eqb a.count 1 c.if-count-ne1.true))
+
+pub returns : goal.returns
+unfolding holds
+returns c =
+    let a = c.args in
+    let n : length a.store ≡ 32 = search rules in
+    sym (same-spells a.count a.store (38 ∷ []) (omega arith) ∙ rw c.if-count-ne1.false (and-true _))

@@ -1,0 +1,74 @@
+use Prim.Native.Nat.{◌-◌}
+use mathlib.Core.Path.{◌≡◌, refl, sym}
+use native.Mathlib.Omega.{arith}
+use lib.ListN.{length}
+use lib.Seq.{length-take-le}
+use borrow.Author.Rules.{rules}
+use Rattle.decoder.specs.Stream.{fed_of}
+use Rattle.decoder.proofs.Returns.{opened, same_state, is_fit, NotRefused, not_refused, end_refused, end_inside, end_done, feeds-nothing, wrote-feeds}
+use Rattle.decoder.proofs.stream.Stream.end.Goals as goal
+
+pub returns-then-answer-ne0 : goal.returns-then-answer-ne0
+returns-then-answer-ne0 c =
+    feeds-nothing (end_refused _ _ _ _ c.refusal-answer.ensures refl c.if-answer-ne0.true) c.refused.ensures
+
+pub overflow_cast-result : goal.overflow_cast-result
+overflow_cast-result c =
+    let goes_on : (let a = c.args in NotRefused a.self 0 (length a.text.now) (length a.errors.now)) =
+        not_refused _ _ _ _ c.refusal-answer.ensures c.if-answer-ne0.false in
+    omega (arith, (opened _ goes_on.stands_open).part)
+
+pub overflow_sub-result : goal.overflow_sub-result
+overflow_sub-result c =
+    let goes_on : (let a = c.args in NotRefused a.self 0 (length a.text.now) (length a.errors.now)) =
+        not_refused _ _ _ _ c.refusal-answer.ensures c.if-answer-ne0.false in
+    omega (arith, (opened _ goes_on.stands_open).were)
+
+pub returns-then-self-gt0 : goal.returns-then-self-gt0
+unfolding fed_of
+returns-then-self-gt0 c =
+    let goes_on : (let a = c.args in NotRefused a.self 0 (length a.text.now) (length a.errors.now)) =
+        not_refused _ _ _ _ c.refusal-answer.ensures c.if-answer-ne0.false in
+    let r = c.args.self in
+    let n : length r.part ≡ 3 = search (rules, c.well_formed) in
+    let a = goes_on in
+    let m = length-take-le r.part_count r.part (omega (arith, (opened r a.stands_open).part)) in
+    feeds-nothing (end_inside _ _ _ a.stands_open a.text_room a.errors_room c.if-self-gt0.true) (λ j. record {
+      answer = 1;
+      taken = 0;
+      text = 0;
+      errors = 0;
+      place = r.taken - sym m j;
+      «record» = c.closed.ensures j;
+    })
+
+pub canonical-held-requires : goal.canonical-held-requires
+canonical-held-requires c =
+    let goes_on : (let a = c.args in NotRefused a.self 0 (length a.text.now) (length a.errors.now)) =
+        not_refused _ _ _ _ c.refusal-answer.ensures c.if-answer-ne0.false in
+    let p = opened _ goes_on.stands_open in
+    (p.count, p.stored)
+
+pub put_last-last-requires : goal.put_last-last-requires
+put_last-last-requires c =
+    let goes_on : (let a = c.args in NotRefused a.self 0 (length a.text.now) (length a.errors.now)) =
+        not_refused _ _ _ _ c.refusal-answer.ensures c.if-answer-ne0.false in
+    let r = c.args.self in
+    let a = goes_on in
+    (search rules, is_fit r.held (opened r a.stands_open).stored c.canonical-held.ensures, a.text_room, a.errors_room)
+
+pub overflow_cast-result-2 : goal.overflow_cast-result-2
+overflow_cast-result-2 c = let w = c.put_last-last.ensures in omega (arith, w.1, w.2)
+
+pub overflow_cast-result-3 : goal.overflow_cast-result-3
+overflow_cast-result-3 c = let w = c.put_last-last.ensures in omega (arith, w.1, w.2)
+
+pub returns : goal.returns
+returns c =
+    let goes_on : (let a = c.args in NotRefused a.self 0 (length a.text.now) (length a.errors.now)) =
+        not_refused _ _ _ _ c.refusal-answer.ensures c.if-answer-ne0.false in
+    let r = c.args.self in
+    let a = goes_on in
+    let e = same_state r.held (opened r a.stands_open).stored c.canonical-held.ensures in
+    rw (end_done _ _ _ a.stands_open a.text_room a.errors_room c.if-self-gt0.false)
+    (wrote-feeds (rw e at c.put_last-last.ensures.0) (rw c.closed-2.ensures))
