@@ -187,6 +187,7 @@ check-small {context = context} {source} {c = c} so =
       | inr (inr (inr (inr (inl w)))) ↦
           let k = verdict_small so w.1.0.0 w.1.1 w.1.0.1 in
           (omega (arith, w.0), (omega (arith, k.0), (omega (arith, k.1, few, all, w.1.0.0), (rw w.2 (omega arith), tt))))
+      | inr (inr (inr (inr (inr w)))) ↦ elim w [ ]
     ]
   where
     refusal : {answer place : ℕ} → c ≡ checked answer (verdict right 0) place → Small answer → Small place

@@ -19,5 +19,5 @@ unfolding encodes
 returns-in_default c =
     let a = c.args in
     let read = rw (rest_from a.s.now a.at) at c.read_char.ensures in
-    character-none (drop a.at a.s.now) c.read_char.result c.in_default.keys2
+    character-none (drop a.at a.s.now) c.read_char.result c.in_default.not-Char
     ∙ ap (λ (r : CharRead). character r (drop a.at a.s.now)) read

@@ -29,13 +29,13 @@ returns-then-not-met c e = no_way (sym e)
 
 pub overflow_sub-result : goal.overflow_sub-result
 overflow_sub-result c =
-    omega (arith, c.meet_codes-met.ensures.at_is c.if-not-met.false)
+    omega (arith, c.meet_codes-met.ensures.at_is (not-false _ c.if-not-met.false))
 
 pub returns : goal.returns
 returns c e =
     let a = c.args in
     let w = or_none (not (eqb a.n 1)) (not (eqb a.m 1)) c.if-n-m.false in
-    let right : c.meet_codes-met.result.right ≡ true = c.if-not-met.false in
+    let right : c.meet_codes-met.result.right ≡ true = not-false _ c.if-not-met.false in
     let byte : c.wide-b.result ≡ get_or a.s.now a.at 0 = c.wide-b.ensures.0 in
     let there = peek_within a.text.now a.t c.peek.ensures (omega (arith, c.if-peek-b.false, c.wide-b.ensures.1)) in
     let many : c.meet_codes-met.result.at - a.e ≡ 2 * a.k = eqb-true _ _ e in

@@ -37,21 +37,21 @@ pub meet_codes-met_errors-requires : goal.meet_codes-met_errors-requires
 meet_codes-met_errors-requires c =
     c.loop-at.invariant.errors_there
 
--- The next piece has a byte, and is there.
-there : (c : tie.After-meet-codes invariant-loop decreases-loop) →
-    let size = c.piece_at-piece.result.size in
-    (0 < size) × (c.loop-at.at + c.text_run-run.result + size ≤ length c.args.s.now)
-there c =
-    next_there c.loop-at.invariant c.text_run-run.ensures c.loop-at-test.true
-    c.requires.1 c.if-here-end.false (piece_of c.piece_at-piece.result)
-    c.piece_at-piece.ensures
-
 pub overflow_add-at : goal.overflow_add-at
 overflow_add-at c =
-    omega (arith, there c, c.requires.2)
+    let there : (let size = c.piece_at-piece.result.size in (0 < size) × (c.loop-at.at + c.text_run-run.result + size ≤ length c.args.s.now)) =
+        next_there c.loop-at.invariant c.text_run-run.ensures c.loop-at-test.true
+        c.requires.1 c.if-here-end.false (piece_of c.piece_at-piece.result)
+        c.piece_at-piece.ensures in
+    omega (arith, there, c.requires.2)
 
 pub loop-at-smaller : goal.loop-at-smaller
-loop-at-smaller c = omega (arith, there c)
+loop-at-smaller c =
+    let there : (let size = c.piece_at-piece.result.size in (0 < size) × (c.loop-at.at + c.text_run-run.result + size ≤ length c.args.s.now)) =
+        next_there c.loop-at.invariant c.text_run-run.ensures c.loop-at-test.true
+        c.requires.1 c.if-here-end.false (piece_of c.piece_at-piece.result)
+        c.piece_at-piece.ensures in
+    omega (arith, there)
 
 pub loop-at-preserved : goal.loop-at-preserved
 loop-at-preserved c =

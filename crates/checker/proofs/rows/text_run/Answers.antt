@@ -1,5 +1,4 @@
 use native.Mathlib.Omega.{arith}
-use borrow.Author.Tests.{not-false}
 use Rattle.checker.proofs.SpanLaws.{alike_if_none}
 use Rattle.checker.proofs.rows.text_run.Goals as goal
 
@@ -17,4 +16,4 @@ returns-then-not-alike c =
 
 pub returns : goal.returns
 returns c =
-    rw (not-false c.args.right c.if-not-right.false) c.alike_run.ensures
+    rw c.if-not-right.false c.alike_run.ensures
