@@ -58,6 +58,7 @@ module _ {mode : Mode} {input out : List ℕ} {e : Escaped} {out' : List ℕ} (s
         | inr (inl w) ↦ small w.2.0 (omega arith) (omega arith) (omega (arith, w.1.0, (stop-within (λ c. done) 0 0 input).0))
         | inr (inr (inl w)) ↦ small w.2.0 (omega arith) (omega (arith, w.1.0.0, six)) (omega arith)
         | inr (inr (inr (inl w))) ↦ small w.2.0 (omega arith) (omega (arith, w.1.0.0, six)) (omega arith)
+        | inr (inr (inr (inr w))) ↦ elim w [ ]
       ]
     where
       small : {a t p : ℕ} → e ≡ escaped a t p → Small a → Small t → Small p → All Small (e.answer ∷ e.text ∷ 0 ∷ e.place ∷ [])

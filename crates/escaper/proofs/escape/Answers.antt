@@ -26,13 +26,11 @@ returns-then-fault-eq1 c =
     let w = answer_fault a.mode a.input.now (length a.out.now) (omega arith) (sym f.0 ∙ c.if-fault-eq1.true) in
     record { answered = rw f.1 w.0; texts = ap (sets a.out.now 0) w.1 }
 
--- Past the second test the input has no fault.
-faultless : (c : tie.Else2) → (escape_stop c.args.input.now).answer ≡ ill_formed → ⊥
-faultless c = rw c.find_stop-fault.ensures.0 at c.if-fault-eq1.false
-
 pub escaped_length-text-requires : goal.escaped_length-text-requires
 escaped_length-text-requires c =
-    (omega arith, no_fault c.args.input.now (faultless c))
+    let faultless : (escape_stop c.args.input.now).answer ≡ ill_formed → ⊥ =
+        rw c.find_stop-fault.ensures.0 at c.if-fault-eq1.false in
+    (omega arith, no_fault c.args.input.now faultless)
 
 pub overflow_cast-result-then-out-text : goal.overflow_cast-result-then-out-text
 overflow_cast-result-then-out-text c =
@@ -41,16 +39,20 @@ overflow_cast-result-then-out-text c =
 
 pub returns-then-out-text : goal.returns-then-out-text
 returns-then-out-text c =
+    let faultless : (escape_stop c.args.input.now).answer ≡ ill_formed → ⊥ =
+        rw c.find_stop-fault.ensures.0 at c.if-fault-eq1.false in
     let a = c.args in
     let n = c.escaped_length-text.ensures in
-    let w = answer_room a.mode a.input.now (length a.out.now) (omega arith) (faultless c) (omega arith) in
+    let w = answer_room a.mode a.input.now (length a.out.now) (omega arith) faultless (omega arith) in
     record { answered = rw n w.0; texts = ap (sets a.out.now 0) w.1 }
 
 pub write_escaped-end-requires : goal.write_escaped-end-requires
 write_escaped-end-requires c =
+    let faultless : (escape_stop c.args.input.now).answer ≡ ill_formed → ⊥ =
+        rw c.find_stop-fault.ensures.0 at c.if-fault-eq1.false in
     let n = c.escaped_length-text.ensures in
     let s = c.args.input.now in
-    (no_fault s (faultless c), omega arith)
+    (no_fault s faultless, omega arith)
 
 pub overflow_cast-result-2 : goal.overflow_cast-result-2
 overflow_cast-result-2 c =
@@ -59,9 +61,11 @@ overflow_cast-result-2 c =
 
 pub returns : goal.returns
 returns c =
+    let faultless : (escape_stop c.args.input.now).answer ≡ ill_formed → ⊥ =
+        rw c.find_stop-fault.ensures.0 at c.if-fault-eq1.false in
     let a = c.args in
     let n = c.escaped_length-text.ensures in
     let p = c.write_escaped-end.ensures in
-    let f = faultless c in
+    let f = faultless in
     let w = answer_done a.mode a.input.now (length a.out.now) (omega arith) f (omega arith) in
     record { answered = rw (p.next_is, zero-add) w.0; texts = p.new_is ∙ ap (sets a.out.now 0) w.1 }

@@ -35,7 +35,7 @@ loop-at-smaller-then-s-at-lt128 c =
 pub returns-in_default : goal.returns-in_default
 returns-in_default c =
     let l = c.loop-at.invariant in
-    let w = turn_other l (omega arith) c.read_char.ensures c.in_default.keys2 in (w.0, w.1, l.there)
+    let w = turn_other l (omega arith) c.read_char.ensures c.in_default.not-Char in (w.0, w.1, l.there)
 
 pub loop-at-preserved : goal.loop-at-preserved
 loop-at-preserved c =
