@@ -106,6 +106,7 @@ module _ {context : Context} {s out errors out' errors' : List ℕ} {r : Decoded
       | inr (inr (inr (inl w))) ↦ (w.2.1, w.2.2, rw (w.1.2, w.2.0), rw w.1.2)
       | inr (inr (inr (inr (inl w)))) ↦ (w.2.1, w.2.2, rw (w.1.2, w.2.0), rw w.1.2)
       | inr (inr (inr (inr (inr (inl w))))) ↦ absurd (y w.0)
+      | inr (inr (inr (inr (inr (inr w))))) ↦ elim w [ ]
     ]
 
     -- Its line has room.
