@@ -1,34 +1,19 @@
 #!/usr/bin/env python3
 """Brings the names of this repository's own definitions and lemmas to the library's spelling.
 
-usage: python3 tools/respell.py [--list]     at the top of the repository; with --list it writes the names and changes nothing
+usage: python3 tools/respell.py     at the top of the repository, once, after the library's scripts
 
-Definitions, fields and constructors are in snake case. So are lemmas, but a dash stays between two names of functions, as in `length-front`,
-and beside a name of a type or an operator. Names from the code keep their spelling, and so does what stands in comments, strings and programs.
+`respell.tsv` beside it has the names, old and new. Definitions, fields and constructors are in snake case. So are lemmas, but a dash stays between two
+names of functions, as in `length-front`, and beside a name of a type or an operator. Names of the code keep their spelling, and so does what stands in
+comments and strings. A name that the library has too stays the library's where a file imports it from there.
 """
 
 import os
 import re
-import sys
 
-# Names that would fall together with another of this repository.
-APART = {
-    "nextIs": "next_passes",
-    "pair-lines": "pair_lines_lem",
-    "walk-on": "walk_goes_on",
-    "c1-line": "c1_line_lem",
-    "end-named": "end_named_lem",
-    "held_on": "held_name_on",
-    "textRoom": "text_room_for",
-    "errorRoom": "error_room_for",
-}
 # A field that would have the name of the definition that its type cites, with the files that have it.
 FIELDS = [("is_open", "stands_open", re.compile(r"(?<![\w.])is_open(?= [:=])|(?<=\.)is_open(?!\.)"), re.compile(r"decoder/proofs/(Returns\.antt|stream/Stream/(end|feed)/)"))]
-LIBRARY = set("length take drop append get_or set sets map reverse replicate filter sum min max add sub mul div mod suc zero".split())
-TOKEN = r"[^\s(){}\[\],;.«»@\"]+"
-SIGNATURE = re.compile(r"^((?:pub |abbrev |unfoldable |data |record |ruleset )*)(" + TOKEN + r")((?: \{[^}]*\})?) (?::|=) ")
-HEAD = re.compile(r"^((?:pub |abbrev |unfoldable )*(?:data|record|ruleset) )(" + TOKEN + r")")
-INNER = re.compile(r"^\s+((?:pub |abbrev )*)(" + TOKEN + r") : ")
+TABLE = os.path.join(os.path.dirname(os.path.realpath(__file__)), "respell.tsv")
 
 
 def files(root, endings, top):
@@ -42,52 +27,6 @@ def files(root, endings, top):
 def read(path):
     with open(path, encoding="utf-8") as f:
         return f.read()
-
-
-def snake(word):
-    return re.sub(r"(?<=[a-z0-9])([A-Z])", lambda m: "_" + m.group(1).lower(), word)
-
-
-def own_proof(path):
-    """A proof of a function: its names are those of its goals."""
-    return re.search(r"/proofs/.+/[^/]+\.antt$", path.replace(os.sep, "/")) is not None
-
-
-def declared(root):
-    """The names of definitions, and those of lemmas."""
-    words, lemmas = set(), set()
-    for path in files(root, ".antt", "crates"):
-        if own_proof(path):
-            continue
-        for line in read(path).splitlines():
-            m = SIGNATURE.match(line) or HEAD.match(line)
-            if m:
-                is_word = any(k in m.group(1) for k in ("abbrev", "unfoldable", "data", "record", "ruleset"))
-                (words if is_word else lemmas).add(m.group(2))
-                continue
-            m = INNER.match(line)
-            if m:
-                words.add(m.group(2))
-    return words, lemmas
-
-
-def respelled(words, lemmas):
-    new = {}
-    for name in words:
-        if name[0].islower() and re.fullmatch(r"[A-Za-z0-9_'?-]+", name):
-            new[name] = snake(name.replace("-", "_"))
-    functions = LIBRARY | {new.get(w, w) for w in words} | {w for w in words}
-    for name in lemmas - words:
-        if "◌" in name or not re.search(r"[a-z]", name):
-            continue
-        parts = [snake(p) for p in name.split("-")]
-        out = parts[0]
-        for a, b in zip(parts, parts[1:]):
-            keeps = (a in functions and b in functions) or a[:1].isupper() or b[:1].isupper() or not (a[-1:].isalnum() or a[-1:] in "'?") or not b[:1].isalnum()
-            out += ("-" if keeps else "_") + b
-        new[name] = out
-    new |= {a: b for a, b in APART.items() if a in words | lemmas}
-    return {a: b for a, b in new.items() if a != b}
 
 
 def split_comments(line, mark):
@@ -134,21 +73,11 @@ def through_alias(text, own, new, theirs):
     return text
 
 
-def main(argv):
+def main():
     root = "."
     own = sorted(os.listdir(os.path.join(root, "crates")))
-    words, lemmas = declared(root)
-    new = respelled(words, lemmas)
-    taken = {}
-    for a, b in new.items():
-        taken.setdefault(b, []).append(a)
-    for b, names in sorted(taken.items()):
-        if len(names) > 1 or b in words or b in lemmas:
-            print("fall together:", b, names, "(there already)" if b in words | lemmas else "")
-    if "--list" in argv:
-        for a, b in sorted(new.items()):
-            print(a, b)
-        return 0
+    with open(TABLE, encoding="utf-8") as f:
+        new = dict(line.split() for line in f)
     for path in files(root, (".antt", ".rt"), "crates"):
         text = read(path)
         it = text
@@ -167,8 +96,7 @@ def main(argv):
         if it != text:
             with open(path, "w", encoding="utf-8") as f:
                 f.write(it)
-    return 0
 
 
 if __name__ == "__main__":
-    raise SystemExit(main(sys.argv[1:]))
+    main()

@@ -9,6 +9,7 @@ use lib.ListN.{length}
 use contract.Lifetimes.{Lfts}
 use denote.Triple.Entry.{Args, Res}
 use denote.Triple.Clauses.{Ended, AtExit}
+use borrow.Fn.Kinds.{ended_of}
 use Rattle.lists.proofs.Ways.{Way, plain, in_bytes}
 use Rattle.standard.specs.declared.Context.{Context}
 use Rattle.decoder.proofs.decode_whole as DecodeWhole
@@ -57,63 +58,63 @@ pub record Call (function : Ended) (ensures : Ensures function) : Type 0 where
 -- Decoding a whole source into a text room and an error room. Of the export, where it is used rightly: with a report of 16 bytes and a number that
 -- means the context. Its result is what the report then says.
 pub data Decoding : Way → Context → (source text errors : List ℕ) → Decoded → (text' errors' : List ℕ) → Type 0 where
-  decode_whole : (c : Call DecodeWhole.ended DecodeWhole.Reads.Post)
+  decode_whole : (c : Call (ended_of 3 DecodeWhole.Kinds.ps DecodeWhole.Kinds.r) DecodeWhole.Reads.Post)
       → Decoding plain c.lent.0 c.lent.1.0.now c.lent.1.1.0.now c.lent.1.1.1.0.now c.result
       c.left.1.1.0.now c.left.1.1.1.0.now
-  decode_bytes : (c : Call DecodeBytes.ended DecodeBytes.Reads.Post)
+  decode_bytes : (c : Call (ended_of 3 DecodeBytes.Kinds.ps DecodeBytes.Kinds.r) DecodeBytes.Reads.Post)
       → Decoding in_bytes c.lent.0 c.lent.1.0.now c.lent.1.1.0.now c.lent.1.1.1.0.now c.result
       c.left.1.1.0.now c.left.1.1.1.0.now
-  plankskein_decode : (c : Call PlankskeinDecode.ended PlankskeinDecode.Reads.Post) (context : Context)
+  plankskein_decode : (c : Call (ended_of 4 PlankskeinDecode.Kinds.ps PlankskeinDecode.Kinds.r) PlankskeinDecode.Reads.Post) (context : Context)
       → length c.lent.1.1.1.1.0.now ≡ 16 → context_of c.lent.0 ≡ some context
       → Decoding in_bytes context c.lent.1.0.now c.lent.1.1.0.now c.lent.1.1.1.0.now
       (fields decoded c.left.1.1.1.1.0.now) c.left.1.1.0.now c.left.1.1.1.0.now
 
 -- A new stream; one that is handed a chunk, with a text room and an error room; and one that is ended.
 pub data Beginning : Context → Stream → Type 0 where
-  new : (c : Call New.ended New.Reads.Post) → Beginning c.lent.0 c.result
+  new : (c : Call (ended_of 0 New.Kinds.ps New.Kinds.r) New.Reads.Post) → Beginning c.lent.0 c.result
 
 pub data Feeding : Stream → (chunk text errors : List ℕ) → Fed → (text' errors' : List ℕ) → Type 0 where
-  feed : (c : Call Feed.ended Feed.Reads.Post)
+  feed : (c : Call (ended_of 3 Feed.Kinds.ps Feed.Kinds.r) Feed.Reads.Post)
       → Feeding c.lent.0 c.lent.1.0.now c.lent.1.1.0.now c.lent.1.1.1.0.now c.result
       c.left.1.1.0.now c.left.1.1.1.0.now
 
 pub data Ending : Stream → (text errors : List ℕ) → Fed → (text' errors' : List ℕ) → Type 0 where
-  end : (c : Call End.ended End.Reads.Post)
+  end : (c : Call (ended_of 2 End.Kinds.ps End.Kinds.r) End.Reads.Post)
       → Ending c.lent.0 c.lent.1.0.now c.lent.1.1.0.now c.result c.left.1.0.now c.left.1.1.0.now
 
 -- Escaping an input into a room.
 pub data Escaping : Mode → (input out : List ℕ) → Escaped → (out' : List ℕ) → Type 0 where
-  escape : (c : Call Escape.ended Escape.Reads.Post)
+  escape : (c : Call (ended_of 2 Escape.Kinds.ps Escape.Kinds.r) Escape.Reads.Post)
       → Escaping c.lent.0 c.lent.1.0.now c.lent.1.1.0.now c.result c.left.1.1.0.now
-  plankskein_escape : (c : Call PlankskeinEscape.ended PlankskeinEscape.Reads.Post) (mode : Mode)
+  plankskein_escape : (c : Call (ended_of 3 PlankskeinEscape.Kinds.ps PlankskeinEscape.Kinds.r) PlankskeinEscape.Reads.Post) (mode : Mode)
       → length c.lent.1.1.1.0.now ≡ 16 → mode_of c.lent.0 ≡ some mode
       → Escaping mode c.lent.1.0.now c.lent.1.1.0.now (fields (λ a t e p. escaped a t p) c.left.1.1.1.0.now)
       c.left.1.1.0.now
 
 -- Checking a transcript: rows, text and errors of a source.
 pub data Checking : Way → Context → (source rows text errors : List ℕ) → Checked → Type 0 where
-  check : (c : Call Check.ended Check.Reads.Post)
+  check : (c : Call (ended_of 4 Check.Kinds.ps Check.Kinds.r) Check.Reads.Post)
       → Checking plain c.lent.0 c.lent.1.0.now c.lent.1.1.0.now c.lent.1.1.1.0.now c.lent.1.1.1.1.0.now c.result
-  check_bytes : (c : Call CheckBytes.ended CheckBytes.Reads.Post)
+  check_bytes : (c : Call (ended_of 4 CheckBytes.Kinds.ps CheckBytes.Kinds.r) CheckBytes.Reads.Post)
       → Checking in_bytes c.lent.0 c.lent.1.0.now c.lent.1.1.0.now c.lent.1.1.1.0.now c.lent.1.1.1.1.0.now
       c.result
-  plankskein_check : (c : Call PlankskeinCheck.ended PlankskeinCheck.Reads.Post) (context : Context)
+  plankskein_check : (c : Call (ended_of 5 PlankskeinCheck.Kinds.ps PlankskeinCheck.Kinds.r) PlankskeinCheck.Reads.Post) (context : Context)
       → length c.lent.1.1.1.1.1.0.now ≡ 16 → context_of c.lent.0 ≡ some context
       → Checking in_bytes context c.lent.1.0.now c.lent.1.1.0.now c.lent.1.1.1.0.now c.lent.1.1.1.1.0.now
       (fields (λ a v r p. checked a (verdict v r) p) c.left.1.1.1.1.1.0.now)
 
 -- Calling an export, rightly or wrongly: with a number, rooms ([] stands for one that it has not) and a report.
 pub data Exporting : (number : ℕ) (text errors report : List ℕ) (returned : ℕ) (text' errors' report' : List ℕ) → Type 0 where
-  plankskein_decode : (c : Call PlankskeinDecode.ended PlankskeinDecode.Reads.Post)
+  plankskein_decode : (c : Call (ended_of 4 PlankskeinDecode.Kinds.ps PlankskeinDecode.Kinds.r) PlankskeinDecode.Reads.Post)
       → Exporting c.lent.0 c.lent.1.1.0.now c.lent.1.1.1.0.now c.lent.1.1.1.1.0.now c.result
       c.left.1.1.0.now c.left.1.1.1.0.now c.left.1.1.1.1.0.now
-  plankskein_escape : (c : Call PlankskeinEscape.ended PlankskeinEscape.Reads.Post)
+  plankskein_escape : (c : Call (ended_of 3 PlankskeinEscape.Kinds.ps PlankskeinEscape.Kinds.r) PlankskeinEscape.Reads.Post)
       → Exporting c.lent.0 c.lent.1.1.0.now [] c.lent.1.1.1.0.now c.result c.left.1.1.0.now []
       c.left.1.1.1.0.now
-  plankskein_check : (c : Call PlankskeinCheck.ended PlankskeinCheck.Reads.Post)
+  plankskein_check : (c : Call (ended_of 5 PlankskeinCheck.Kinds.ps PlankskeinCheck.Kinds.r) PlankskeinCheck.Reads.Post)
       → Exporting c.lent.0 [] [] c.lent.1.1.1.1.1.0.now c.result [] [] c.left.1.1.1.1.1.0.now
 
 -- Writing the bench program's report of an input.
 pub data Reporting : (input out errors : List ℕ) (r : ℕ) (out' errors' : List ℕ) → Type 0 where
-  report : (c : Call Report.ended Report.Reads.Post)
+  report : (c : Call (ended_of 3 Report.Kinds.ps Report.Kinds.r) Report.Reads.Post)
       → Reporting c.lent.0.now c.lent.1.0.now c.lent.1.1.0.now c.result c.left.1.0.now c.left.1.1.0.now

@@ -251,7 +251,7 @@ run-from : {context : Context} {r : Stream} {t : List ℕ} {g : Reading} → Sta
     → length t + length source ≤ longest_stream → HasRun r source
 run-from {r = r} s [] long =
     let o = end_of builtin r 64 8 in (o.gives, o.answer, o.place, ends r 64 8 o refl (end-allowed s))
-run-from {context} {r} {t} {g} s (b ∷ source) long = by (closes o.answer) refl (λ on short. run-from on source short)
+run-from {context} {r} {t} {g} s (b ∷ source) long = by (closes o.answer) refl (λ on short. run-from {r = o.record'} on source short)
   where
     o : Outcome
     o = feed_of builtin r (b ∷ []) 64 8

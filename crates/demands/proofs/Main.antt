@@ -5,12 +5,13 @@
 use Prim.Native.Nat.{ℕ, suc, ◌+◌, ◌-◌, ◌*◌, ◌≤◌, ◌<◌}
 use Prim.Native.Char.{code}
 use mathlib.Core.Path.{◌≡◌, refl}
-use mathlib.Core.Bool.{true}
+use mathlib.Core.Bool.{true, false}
 use mathlib.Core.List.{List, [], ◌∷◌, ◌++◌, Memᴰ}
 use mathlib.Core.Logic.{◌≢◌, ◌↔◌, ◌⊎◌}
 use lib.Dec.{eqb}
 use lib.ListN.{length, get_or, take, drop}
 use lib.Seq.{sets}
+use borrow.Fn.Kinds.{ended_of}
 use Rattle.lists.specs.Bytes.{word32}
 use Rattle.lists.specs.Notation.{if◌then◌else◌}
 use Rattle.lists.proofs.Every.{All}
@@ -92,7 +93,7 @@ use Rattle.exports.proofs.Passing as Passing
 use Rattle.exports.proofs.ExportEdges as ExportEdges
 use Rattle.reporting.specs.Report.{decimal, report_of, errors_of, report_room, numbers_room}
 use Rattle.reporting.proofs.ReportCalls as ReportCalls
-use Rattle.reporting.proofs.Examples as ReportExamples
+use Rattle.reporting.proofs.ExampleCases as ReportExamples
 use Rattle.reporting.proofs.Bound as ReportBound
 use Rattle.reporting.proofs.LongInputs as LongInputs
 use Rattle.reporting.proofs.Decimals as Decimals
@@ -122,12 +123,12 @@ use Rattle.demands.proofs.Calls.{Call, Decoding, Beginning, Feeding, Ending, Esc
 use Rattle.demands.proofs.CallLaws.{decoding_so, feeding_so, ending-so, escaping_so, checking_so, exporting_so, reporting_so}
 use Rattle.demands.proofs.Streams.{Running, Called}
 use Rattle.demands.proofs.StreamLaws as StreamLaws
-use Rattle.demands.proofs.StreamAnswers as Chunks
+use Rattle.demands.proofs.StreamTables as Chunks
 use Rattle.demands.proofs.Cutting as Cutting
 use Rattle.demands.proofs.Held as Held
 use Rattle.demands.proofs.Held.{Phase}
 use Rattle.demands.proofs.Settled.{Settled, settled}
-use Rattle.demands.proofs.Marked as Marked
+use Rattle.demands.proofs.MarkedCases as Marked
 
 -- DEMAND 1: TOTAL. The table of answers: each is given exactly when its line says, then the rest of the line is so, and no other answer is given.
 -- (That no public function has a `requires` is `total` of Settled, under 'What counts as proved'.)
@@ -211,7 +212,7 @@ module _ {number : ℕ} {text errors report : List ℕ} {returned : ℕ} {text' 
   answer_returned = (exporting_so call).1
 
 -- 'A field not named for an answer is 0': `plankskein_escape` reports no errors.
-pub no_errors-reported : (c : Call PlankskeinEscape.ended PlankskeinEscape.Reads.Post)
+pub no_errors-reported : (c : Call (ended_of 3 PlankskeinEscape.Kinds.ps PlankskeinEscape.Kinds.r) PlankskeinEscape.Reads.Post)
     → RightUse c.lent.1.1.1.0.now c.lent.0 → word32 c.left.1.1.1.0.now 8 ≡ 0
 no_errors-reported c = Uses.escape_no_errors _ _ _ _ c.meets
 
@@ -274,14 +275,14 @@ module _ {r : Stream} {text errors : List ℕ} {f : Fed} {text' errors' : List �
   abbrev Room : Type 0
   Room = (64 ≤ length text) × (8 ≤ length errors)
 
-  pub end_answers : let open = is_open builtin r ≡ true in
+  pub end_answers : let opened = is_open builtin r ≡ true in
       let shut = closed_by r.context r.taken in
       let unchanged = Chunks.Unchanged r text errors f text' errors' in
       Table f.answer
       ((closed when is_open builtin r ≡ false with unchanged closed)
-      ∷ (no_room when open × ((length text < 64) ⊎ (length errors < 8)) with unchanged no_room)
-      ∷ (ill_formed when open × Room × (0 < r.part_count) with Ended ill_formed (place_of (at_of r)) nothing shut)
-      ∷ (done when open × Room × (r.part_count ≡ 0) with Ended done 0 (finish builtin r.context (st_of r.held)) shut)
+      ∷ (no_room when opened × ((length text < 64) ⊎ (length errors < 8)) with unchanged no_room)
+      ∷ (ill_formed when opened × Room × (0 < r.part_count) with Ended ill_formed (place_of (at_of r)) nothing shut)
+      ∷ (done when opened × Room × (r.part_count ≡ 0) with Ended done 0 (finish builtin r.context (st_of r.held)) shut)
       ∷ [])
   end_answers = Chunks.end_table r text errors f text' errors' (ending-so call)
 
@@ -447,74 +448,74 @@ no_rows_refused short reads some pairs call = Transcripts.no_rows_refused short 
 
 -- WHAT COUNTS AS PROVED. 'Every public function promises its complete result and the later contents of whatever it was lent, on refusal as on
 -- success; a proof shows that no second answer fits.' And none has a `requires`.
-pub read-char_settled : Settled ReadChar.ended ReadChar.Reads.Pre ReadChar.Reads.Post (λ κs e. [])
+pub read-char_settled : Settled (ended_of 1 ReadChar.Kinds.ps ReadChar.Kinds.r) ReadChar.Reads.Pre ReadChar.Reads.Post (λ κs e. [])
 read-char_settled = settled _ _ (λ κs a. tt) (λ κs a x e p. (p, refl))
 
-pub longest-name_settled : Settled LongestName.ended LongestName.Reads.Pre LongestName.Reads.Post (λ κs e. [])
+pub longest-name_settled : Settled (ended_of 2 LongestName.Kinds.ps LongestName.Kinds.r) LongestName.Reads.Pre LongestName.Reads.Post (λ κs e. [])
 longest-name_settled = settled _ _ (λ κs a. tt) (λ κs a x e p. (p, refl))
 
-pub begins-name_settled : Settled BeginsName.ended BeginsName.Reads.Pre BeginsName.Reads.Post (λ κs e. [])
+pub begins-name_settled : Settled (ended_of 2 BeginsName.Kinds.ps BeginsName.Kinds.r) BeginsName.Reads.Pre BeginsName.Reads.Post (λ κs e. [])
 begins-name_settled = settled _ _ (λ κs a. tt) (λ κs a x e p. (p, refl))
 
-pub builtin-names_settled : Settled BuiltinNames.ended BuiltinNames.Reads.Pre BuiltinNames.Reads.Post (λ κs e. [])
+pub builtin-names_settled : Settled (ended_of 0 BuiltinNames.Kinds.ps BuiltinNames.Kinds.r) BuiltinNames.Reads.Pre BuiltinNames.Reads.Post (λ κs e. [])
 builtin-names_settled = settled _ _ (λ κs a. tt) (λ κs a x e p. (p, refl))
 
-pub ascii-end_settled : Settled AsciiEnd.ended AsciiEnd.Reads.Pre AsciiEnd.Reads.Post (λ κs e. [])
+pub ascii-end_settled : Settled (ended_of 1 AsciiEnd.Kinds.ps AsciiEnd.Kinds.r) AsciiEnd.Reads.Pre AsciiEnd.Reads.Post (λ κs e. [])
 ascii-end_settled = settled _ _ (λ κs a. tt) (λ κs a x e p. (p, refl))
 
-pub ordinary-end_settled : Settled OrdinaryEnd.ended OrdinaryEnd.Reads.Pre OrdinaryEnd.Reads.Post (λ κs e. [])
+pub ordinary-end_settled : Settled (ended_of 1 OrdinaryEnd.Kinds.ps OrdinaryEnd.Kinds.r) OrdinaryEnd.Reads.Pre OrdinaryEnd.Reads.Post (λ κs e. [])
 ordinary-end_settled = settled _ _ (λ κs a. tt) (λ κs a x e p. (p, refl))
 
-pub plain-end_settled : Settled PlainEnd.ended PlainEnd.Reads.Pre PlainEnd.Reads.Post (λ κs e. [])
+pub plain-end_settled : Settled (ended_of 1 PlainEnd.Kinds.ps PlainEnd.Kinds.r) PlainEnd.Reads.Pre PlainEnd.Reads.Post (λ κs e. [])
 plain-end_settled = settled _ _ (λ κs a. tt) (λ κs a x e p. (p, refl))
 
-pub quiet-end_settled : Settled QuietEnd.ended QuietEnd.Reads.Pre QuietEnd.Reads.Post (λ κs e. [])
+pub quiet-end_settled : Settled (ended_of 1 QuietEnd.Kinds.ps QuietEnd.Kinds.r) QuietEnd.Reads.Pre QuietEnd.Reads.Post (λ κs e. [])
 quiet-end_settled = settled _ _ (λ κs a. tt) (λ κs a x e p. (p, refl))
 
-pub copy_settled : Settled Copy.ended Copy.Reads.Pre Copy.Reads.Post (λ κs e. e.1.0.now ∷ [])
+pub copy_settled : Settled (ended_of 2 Copy.Kinds.ps Copy.Kinds.r) Copy.Reads.Pre Copy.Reads.Post (λ κs e. e.1.0.now ∷ [])
 copy_settled = settled _ _ (λ κs a. tt) (λ κs a x e p. (p.next_is, λ i. p.new_is i ∷ []))
 
-pub put_numbers_settled : Settled PutNumbers.ended PutNumbers.Reads.Pre PutNumbers.Reads.Post (λ κs e. e.1.0.now ∷ [])
+pub put_numbers_settled : Settled (ended_of 2 PutNumbers.Kinds.ps PutNumbers.Kinds.r) PutNumbers.Reads.Pre PutNumbers.Reads.Post (λ κs e. e.1.0.now ∷ [])
 put_numbers_settled = settled _ _ (λ κs a. tt) (λ κs a x e p. (p.next_is, λ i. p.new_is i ∷ []))
 
-pub decode-whole_settled : Settled DecodeWhole.ended DecodeWhole.Reads.Pre DecodeWhole.Reads.Post
+pub decode-whole_settled : Settled (ended_of 3 DecodeWhole.Kinds.ps DecodeWhole.Kinds.r) DecodeWhole.Reads.Pre DecodeWhole.Reads.Post
     (λ κs e. e.1.1.0.now ∷ e.1.1.1.0.now ∷ [])
 decode-whole_settled = settled _ _ (λ κs a. tt) (λ κs a x e p. (p.answered, λ i. p.texts i ∷ p.numbers_of i ∷ []))
 
-pub decode-bytes_settled : Settled DecodeBytes.ended DecodeBytes.Reads.Pre DecodeBytes.Reads.Post
+pub decode-bytes_settled : Settled (ended_of 3 DecodeBytes.Kinds.ps DecodeBytes.Kinds.r) DecodeBytes.Reads.Pre DecodeBytes.Reads.Post
     (λ κs e. e.1.1.0.now ∷ e.1.1.1.0.now ∷ [])
 decode-bytes_settled = settled _ _ (λ κs a. tt) (λ κs a x e p. (p.answered, λ i. p.texts i ∷ p.numbers_of i ∷ []))
 
-pub new_settled : Settled New.ended New.Reads.Pre New.Reads.Post (λ κs e. [])
+pub new_settled : Settled (ended_of 0 New.Kinds.ps New.Kinds.r) New.Reads.Pre New.Reads.Post (λ κs e. [])
 new_settled = settled _ _ (λ κs a. tt) (λ κs a x e p. (p, refl))
 
-pub feed_settled : Settled Feed.ended Feed.Reads.Pre Feed.Reads.Post (λ κs e. e.1.1.0.now ∷ e.1.1.1.0.now ∷ [])
+pub feed_settled : Settled (ended_of 3 Feed.Kinds.ps Feed.Kinds.r) Feed.Reads.Pre Feed.Reads.Post (λ κs e. e.1.1.0.now ∷ e.1.1.1.0.now ∷ [])
 feed_settled = settled _ _ (λ κs a. tt) (λ κs a x e p. (p.answered, λ i. p.texts i ∷ p.numbers_of i ∷ []))
 
-pub end_settled : Settled End.ended End.Reads.Pre End.Reads.Post (λ κs e. e.1.0.now ∷ e.1.1.0.now ∷ [])
+pub end_settled : Settled (ended_of 2 End.Kinds.ps End.Kinds.r) End.Reads.Pre End.Reads.Post (λ κs e. e.1.0.now ∷ e.1.1.0.now ∷ [])
 end_settled = settled _ _ (λ κs a. tt) (λ κs a x e p. (p.answered, λ i. p.texts i ∷ p.numbers_of i ∷ []))
 
-pub escape_settled : Settled Escape.ended Escape.Reads.Pre Escape.Reads.Post (λ κs e. e.1.1.0.now ∷ [])
+pub escape_settled : Settled (ended_of 2 Escape.Kinds.ps Escape.Kinds.r) Escape.Reads.Pre Escape.Reads.Post (λ κs e. e.1.1.0.now ∷ [])
 escape_settled = settled _ _ (λ κs a. tt) (λ κs a x e p. (p.answered, λ i. p.texts i ∷ []))
 
-pub check_settled : Settled Check.ended Check.Reads.Pre Check.Reads.Post (λ κs e. [])
+pub check_settled : Settled (ended_of 4 Check.Kinds.ps Check.Kinds.r) Check.Reads.Pre Check.Reads.Post (λ κs e. [])
 check_settled = settled _ _ (λ κs a. tt) (λ κs a x e p. (p, refl))
 
-pub check-bytes_settled : Settled CheckBytes.ended CheckBytes.Reads.Pre CheckBytes.Reads.Post (λ κs e. [])
+pub check-bytes_settled : Settled (ended_of 4 CheckBytes.Kinds.ps CheckBytes.Kinds.r) CheckBytes.Reads.Pre CheckBytes.Reads.Post (λ κs e. [])
 check-bytes_settled = settled _ _ (λ κs a. tt) (λ κs a x e p. (p, refl))
 
-pub report_settled : Settled Report.ended Report.Reads.Pre Report.Reads.Post (λ κs e. e.1.0.now ∷ e.1.1.0.now ∷ [])
+pub report_settled : Settled (ended_of 3 Report.Kinds.ps Report.Kinds.r) Report.Reads.Pre Report.Reads.Post (λ κs e. e.1.0.now ∷ e.1.1.0.now ∷ [])
 report_settled = settled _ _ (λ κs a. tt) (λ κs a x e p. (p.written.next_is, λ i. p.written.new_is i ∷ p.numbers_of i ∷ []))
 
-pub plankskein_decode_settled : Settled PlankskeinDecode.ended PlankskeinDecode.Reads.Pre PlankskeinDecode.Reads.Post
+pub plankskein_decode_settled : Settled (ended_of 4 PlankskeinDecode.Kinds.ps PlankskeinDecode.Kinds.r) PlankskeinDecode.Reads.Pre PlankskeinDecode.Reads.Post
     (λ κs e. e.1.1.0.now ∷ e.1.1.1.0.now ∷ e.1.1.1.1.0.now ∷ [])
 plankskein_decode_settled = settled _ _ (λ κs a. tt) (λ κs a x e p. (p.answered, λ i. p.texts i ∷ p.numbers_of i ∷ p.reports i ∷ []))
 
-pub plankskein_escape_settled : Settled PlankskeinEscape.ended PlankskeinEscape.Reads.Pre PlankskeinEscape.Reads.Post
+pub plankskein_escape_settled : Settled (ended_of 3 PlankskeinEscape.Kinds.ps PlankskeinEscape.Kinds.r) PlankskeinEscape.Reads.Pre PlankskeinEscape.Reads.Post
     (λ κs e. e.1.1.0.now ∷ e.1.1.1.0.now ∷ [])
 plankskein_escape_settled = settled _ _ (λ κs a. tt) (λ κs a x e p. (p.answered, λ i. p.texts i ∷ p.reports i ∷ []))
 
-pub plankskein_check_settled : Settled PlankskeinCheck.ended PlankskeinCheck.Reads.Pre PlankskeinCheck.Reads.Post
+pub plankskein_check_settled : Settled (ended_of 5 PlankskeinCheck.Kinds.ps PlankskeinCheck.Kinds.r) PlankskeinCheck.Reads.Pre PlankskeinCheck.Reads.Post
     (λ κs e. e.1.1.1.1.1.0.now ∷ [])
 plankskein_check_settled = settled _ _ (λ κs a. tt) (λ κs a x e p. (p.answered, λ i. p.reports i ∷ []))
 

@@ -1,6 +1,6 @@
 -- Demand 1 for streams: for each line of the table of answers, when `feed` and `end` give it, and what then holds.
 -- r is any record; fed, text' and errors' are whatever meets the contract of the call for a chunk and two rooms.
-use Prim.Native.Nat.{ℕ, suc, ◌+◌, ◌-◌, ◌*◌, ◌≤◌, ◌<◌}
+use Prim.Native.Nat.{ℕ, ◌+◌, ◌-◌, ◌*◌, ◌≤◌, ◌<◌}
 use mathlib.Core.Path.{◌≡◌, refl, sym, ◌∙◌, ap, subst}
 use mathlib.Core.List.{List, [], ◌∷◌, ◌++◌}
 use mathlib.Core.Bool.{true, false}
@@ -11,7 +11,6 @@ use lib.ListN.{length, length-append}
 use lib.Seq.{sets}
 use Rattle.lists.specs.Notation.{if◌then◌else◌}
 use Rattle.lists.proofs.Choice.{no_way, test?, below?}
-use Rattle.lists.proofs.Tables.{◌when◌with◌, Kept, Table}
 use Rattle.standard.specs.declared.Context.{Context}
 use Rattle.standard.specs.declared.characters.CharRead.TheVariants.{Illformed}
 use Rattle.standard.specs.Contexts.{ends}
@@ -60,6 +59,7 @@ use Rattle.standard.proofs.Stops.{OneOf}
 use Rattle.decoder.proofs.Calling.{called-one, ill_called, nul_called, end_called}
 use Rattle.decoder.proofs.Returns.{feed_closed, feed_long, feed_stream_long, feed_room, end_closed, end_room, end_inside, end_done}
 use Rattle.decoder.proofs.Room.{lacks-so, room-so, room?, lacks-only, room-only}
+use Rattle.demands.proofs.Lines.{Line, LineOf}
 use Rattle.demands.proofs.Held.{By, Calls, as_left, closed-closed}
 use Rattle.demands.proofs.WalkStops.{
   Takes,
@@ -94,21 +94,6 @@ pub closed-by : {context : Context} {r : Stream} {t : List ℕ} {g : Reading} {a
 closed-by {context} {t = t} c chunk text errors =
     subst (λ (r : Stream). (feed_of builtin r chunk text errors ≡ refuses closed r) × (end_of builtin r text errors ≡ refuses closed r))
     (sym (as_left c).0) (closed_forever context (length t) chunk text errors)
-
--- The answers to a chunk are all numbers up to 8.
-one_of_nine : (n : ℕ) → n ≤ 8
-    → (n ≡ closed) ⊎ ((n ≡ too_long) ⊎ ((n ≡ stream_too_long) ⊎ ((n ≡ no_room) ⊎ ((n ≡ room_used_up) ⊎ ((n ≡ ill_formed) ⊎ ((n ≡ nul)
-    ⊎ ((n ≡ context_end) ⊎ ((n ≡ done) ⊎ ⊥))))))))
-one_of_nine 0 h = inr (inr (inr (inr (inr (inr (inr (inr (inl refl))))))))
-one_of_nine 1 h = inr (inr (inr (inr (inr (inl refl)))))
-one_of_nine 2 h = inr (inr (inr (inr (inr (inr (inl refl))))))
-one_of_nine 3 h = inr (inl refl)
-one_of_nine 4 h = inr (inr (inl refl))
-one_of_nine 5 h = inr (inr (inr (inl refl)))
-one_of_nine 6 h = inr (inr (inr (inr (inl refl))))
-one_of_nine 7 h = inr (inr (inr (inr (inr (inr (inr (inl refl)))))))
-one_of_nine 8 h = inl refl
-one_of_nine (suc (suc (suc (suc (suc (suc (suc (suc (suc n))))))))) h = absurd (omega (arith, h))
 
 module _ (r : Stream) (text errors : List ℕ) (fed : Fed) (text' errors' : List ℕ) where
   -- The record counts as open, or as closed.
@@ -336,58 +321,80 @@ module _ (r : Stream) (text errors : List ℕ) (fed : Fed) (text' errors' : List
       open_all w = feed_open r chunk (length text) (length errors) w.fine chunk w.took (omega arith)
 
       -- A line of a refusal.
-      refusal : (n : ℕ) (W : Type 0) → (W → comes ≡ refuses n r) → (fed.answer ≡ n → W) → Kept fed.answer (n when W with Unchanged n)
+      refusal : (n : ℕ) (when : Type 0) → (when → comes ≡ refuses n r) → (fed.answer ≡ n → when) → Line fed.answer n when (Unchanged n)
       unfolding numbers
-      refusal n W is only = record { only = only; given = λ w. answered d (is w); so = λ w. gives d (is w) }
+      refusal n when is only = record { only = only; given = λ w. answered d (is w); so = λ w. gives d (is w) }
 
-      -- One that goes by what shows it.
-      line : (n : ℕ) (W : Type 0) (T : W → Type 0) → (fed.answer ≡ n → W) → ((w : W) → (fed.answer ≡ n) × T w)
-          → Kept fed.answer (n when W with ((w : W) → T w))
-      line n W T only so = record { only = only; given = λ w. (so w).0; so = λ _ w. (so w).1 }
+      -- The stream is closed: nothing changes.
+      pub feed_8 : Line fed.answer closed Closed (Unchanged closed)
+      feed_8 = refusal closed Closed (feed_closed r _ _ chunk) (only closed)
 
-      -- Where the stream goes on from, and where it is closed with so many bytes before.
-      abbrev on : At → Stream
-      on here = record_of r.context here
+      -- The chunk is too long: nothing changes.
+      pub feed_3 : Line fed.answer too_long ChunkTooLong (Unchanged too_long)
+      feed_3 = refusal too_long ChunkTooLong (λ w. feed_long r _ _ w.0 chunk w.1) (only too_long)
 
-      abbrev shut : List ℕ → Stream
-      shut before = closed_by r.context (r.taken + length before)
+      -- The stream would be too long: nothing changes.
+      pub feed_4 : Line fed.answer stream_too_long StreamTooLong (Unchanged stream_too_long)
+      feed_4 = refusal stream_too_long StreamTooLong (λ w. feed_stream_long r _ _ w.0 chunk w.1 w.2) (only stream_too_long)
 
-      -- 8, 3, 4 and 5: nothing changes. 6: the bytes before one that lacks room are taken, what they release is written, and the stream is open. 1 and
-      -- 2: the same, but that what is held is dropped, the place is the character's, and the stream is closed. 7: what is held is written. 0: all is
-      -- taken.
-      pub feed_table : Table fed.answer
-          ((closed when Closed with Unchanged closed)
-          ∷ (too_long when ChunkTooLong with Unchanged too_long)
-          ∷ (stream_too_long when StreamTooLong with Unchanged stream_too_long)
-          ∷ (no_room when TooLittleRoom with Unchanged no_room)
-          ∷ (room_used_up when LacksRoom
-          with ((w : LacksRoom) → let m = w.at in Gives room_used_up (length m.before) 0 m.g (on m.here) × OpenAfter m.here))
-          ∷ (ill_formed when Meets ill_formed
-          with ((w : Meets ill_formed) → let m = w.at in Gives ill_formed (length m.before) (place_of m.here) m.g (shut m.before)))
-          ∷ (nul when Meets nul
-          with ((w : Meets nul) → let m = w.at in Gives nul (length m.before) (place_of m.here) m.g (shut m.before)))
-          ∷ (context_end when Meets context_end
-          with ((w : Meets context_end) → let m = w.at in
-          Gives context_end (length m.before) (place_of m.here) (m.g ⊕ finish builtin r.context m.here.st) (shut m.before)))
-          ∷ (done when TakesAll with ((w : TakesAll) → Gives done (length chunk) 0 w.g (on w.here) × OpenAfter w.here))
-          ∷ [])
-      feed_table = record {
-        each = (
-          refusal closed Closed (feed_closed r _ _ chunk) (only closed),
-          refusal too_long ChunkTooLong (λ w. feed_long r _ _ w.0 chunk w.1) (only too_long),
-          refusal stream_too_long StreamTooLong (λ w. feed_stream_long r _ _ w.0 chunk w.1 w.2) (only stream_too_long),
-          refusal no_room TooLittleRoom (λ w. feed_room r _ _ w.0 chunk w.1 w.2 w.3) (only no_room),
-          line room_used_up LacksRoom _ (only room_used_up) (λ w. (answered d (is_full w), gives d (is_full w), open_before w.at)),
-          line ill_formed (Meets ill_formed) _ (only ill_formed)
-              (λ w. (answered d (is_met ill_formed refl w), gives d (is_dropped ill_formed refl refl w))),
-          line nul (Meets nul) _ (only nul) (λ w. (answered d (is_met nul refl w), gives d (is_dropped nul refl refl w))),
-          line context_end (Meets context_end) _ (only context_end)
-              (λ w. (answered d (is_met context_end refl w), gives d (is_met context_end refl w))),
-          line done TakesAll _ (only done) (λ w. (answered d (is_all w), gives d (is_all w), open_all w)),
-          tt,
-        );
-        no_other = one_of_nine fed.answer (omega (arith, cause.2, cause.3));
+      -- A room is too small: nothing changes.
+      pub feed_5 : Line fed.answer no_room TooLittleRoom (Unchanged no_room)
+      feed_5 = refusal no_room TooLittleRoom (λ w. feed_room r _ _ w.0 chunk w.1 w.2 w.3) (only no_room)
+
+      -- The next byte lacks free room: those before it are taken, what they release is written, and the stream is open.
+      pub feed_6 : LineOf fed.answer room_used_up LacksRoom
+          (λ w. let m = w.at in
+          Gives room_used_up (length m.before) 0 m.g (record_of r.context m.here) × OpenAfter m.here)
+      feed_6 = record {
+        only = only room_used_up;
+        given = λ w. answered d (is_full w);
+        so = λ w. (gives d (is_full w), open_before w.at);
       }
+
+      -- An ill-formed byte: those before it are taken, what they release is written and what is held is dropped, the place is that of the
+      -- character's first byte, and the stream is closed.
+      pub feed_1 : LineOf fed.answer ill_formed (Meets ill_formed)
+          (λ w. let m = w.at in
+          Gives ill_formed (length m.before) (place_of m.here) m.g (closed_by r.context (r.taken + length m.before)))
+      feed_1 = record {
+        only = only ill_formed;
+        given = λ w. answered d (is_met ill_formed refl w);
+        so = λ w. gives d (is_dropped ill_formed refl refl w);
+      }
+
+      -- NUL: the same, with its place.
+      pub feed_2 : LineOf fed.answer nul (Meets nul)
+          (λ w. let m = w.at in
+          Gives nul (length m.before) (place_of m.here) m.g (closed_by r.context (r.taken + length m.before)))
+      feed_2 = record {
+        only = only nul;
+        given = λ w. answered d (is_met nul refl w);
+        so = λ w. gives d (is_dropped nul refl refl w);
+      }
+
+      -- The context's end: the same, with its place, but that what is held is written.
+      pub feed_7 : LineOf fed.answer context_end (Meets context_end)
+          (λ w. let m = w.at in
+          Gives context_end (length m.before) (place_of m.here) (m.g ⊕ finish builtin r.context m.here.st)
+          (closed_by r.context (r.taken + length m.before)))
+      feed_7 = record {
+        only = only context_end;
+        given = λ w. answered d (is_met context_end refl w);
+        so = λ w. gives d (is_met context_end refl w);
+      }
+
+      -- All is taken: what the bytes release is written, and the stream is open.
+      pub feed_0 : LineOf fed.answer done TakesAll
+          (λ w. Gives done (length chunk) 0 w.g (record_of r.context w.here) × OpenAfter w.here)
+      feed_0 = record {
+        only = only done;
+        given = λ w. answered d (is_all w);
+        so = λ w. (gives d (is_all w), open_all w);
+      }
+
+      -- No other answer is given.
+      pub feed_no_other : fed.answer ≤ 8
+      feed_no_other = omega (arith, cause.2, cause.3)
 
   -- What 5, 1 and 0 are given for at the end: too little room; an incomplete character; none.
   abbrev pub EndNoRoom : Type 0
@@ -400,8 +407,8 @@ module _ (r : Stream) (text errors : List ℕ) (fed : Fed) (text' errors' : List
   EndWhole = Open × Room (length text) (length errors) × (r.part_count ≡ 0)
 
   -- The answers at the end.
-  abbrev EndOneOf : ℕ → Type 0
-  EndOneOf n = (n ≡ closed) ⊎ ((n ≡ no_room) ⊎ ((n ≡ ill_formed) ⊎ ((n ≡ done) ⊎ ⊥)))
+  abbrev pub EndOneOf : ℕ → Type 0
+  EndOneOf n = (n ≡ closed) ⊎ ((n ≡ no_room) ⊎ ((n ≡ ill_formed) ⊎ (n ≡ done)))
 
   module _ (d : Feeds (end_of builtin r (length text) (length errors)) text errors fed text' errors') where
     -- What an answer is given for.
@@ -429,7 +436,7 @@ module _ (r : Stream) (text errors : List ℕ) (fed : Fed) (text' errors' : List
         room : Open → Room (length text) (length errors) → (n : ℕ) × EndWhen n × (fed.answer ≡ n) × EndOneOf n
         room o h =
             ⊎_elim (λ k. (ill_formed, (o, h, k), answered d (is_inside (o, h, k)), inr (inr (inl refl))))
-            (λ k. let w : EndWhole = (o, h, omega arith) in (done, w, answered d (is_whole w), inr (inr (inr (inl refl))))) (below? 0 r.part_count)
+            (λ k. let w : EndWhole = (o, h, omega arith) in (done, w, answered d (is_whole w), inr (inr (inr refl)))) (below? 0 r.part_count)
 
         opened : Open → (n : ℕ) × EndWhen n × (fed.answer ≡ n) × EndOneOf n
         opened o =
@@ -439,26 +446,40 @@ module _ (r : Stream) (text errors : List ℕ) (fed : Fed) (text' errors' : List
     end_only : (n : ℕ) → fed.answer ≡ n → EndWhen n
     end_only n e = subst EndWhen (sym end_cause.2 ∙ e) end_cause.1
 
-    -- 8 and 5: nothing changes. 1, an incomplete character: nothing is written, what is held is dropped, and the stream is closed. 0: what is held is
-    -- written, and the stream is closed.
-    pub end_table : let shut = closed_by r.context r.taken in Table fed.answer
-        ((closed when Closed with Unchanged closed)
-        ∷ (no_room when EndNoRoom with Unchanged no_room)
-        ∷ (ill_formed when EndInside with Gives ill_formed 0 (place_of (at_of r)) nothing shut)
-        ∷ (done when EndWhole with Gives done 0 0 (finish builtin r.context (st_of r.held)) shut)
-        ∷ [])
+    -- The stream is closed: nothing changes.
+    pub end_8 : Line fed.answer closed Closed (Unchanged closed)
     unfolding numbers
-    end_table = record {
-      each = (
-        end_line closed Closed _ (end_only closed) (λ w. (answered d (end_closed r _ _ w), gives d (end_closed r _ _ w))),
-        end_line no_room EndNoRoom _ (end_only no_room)
-            (λ w. (answered d (end_room r _ _ w.0 w.1), gives d (end_room r _ _ w.0 w.1))),
-        end_line ill_formed EndInside _ (end_only ill_formed) (λ w. (answered d (is_inside w), gives d (is_inside w))),
-        end_line done EndWhole _ (end_only done) (λ w. (answered d (is_whole w), gives d (is_whole w))),
-        tt,
-      );
-      no_other = subst EndOneOf (sym end_cause.2) end_cause.3;
+    end_8 = record {
+      only = end_only closed;
+      given = λ w. answered d (end_closed r _ _ w);
+      so = λ w. gives d (end_closed r _ _ w);
     }
-      where
-        end_line : (n : ℕ) (W T : Type 0) → (fed.answer ≡ n → W) → (W → (fed.answer ≡ n) × T) → Kept fed.answer (n when W with T)
-        end_line n W T only so = record { only = only; given = λ w. (so w).0; so = λ w. (so w).1 }
+
+    -- A room is too small: nothing changes.
+    pub end_5 : Line fed.answer no_room EndNoRoom (Unchanged no_room)
+    unfolding numbers
+    end_5 = record {
+      only = end_only no_room;
+      given = λ w. answered d (end_room r _ _ w.0 w.1);
+      so = λ w. gives d (end_room r _ _ w.0 w.1);
+    }
+
+    -- An incomplete character: nothing is written and what is held is dropped, the place is that of the character's first byte, and the stream is
+    -- closed.
+    pub end_1 : Line fed.answer ill_formed EndInside
+        ((fed ≡ fed_of (outcome ill_formed 0 (place_of (at_of r)) nothing (closed_by r.context r.taken))) × (text' ≡ text) × (errors' ≡ errors))
+    unfolding numbers
+    end_1 = record {
+      only = end_only ill_formed;
+      given = λ w. answered d (is_inside w);
+      so = λ w. gives d (is_inside w);
+    }
+
+    -- It has ended: what is held is written, and the stream is closed.
+    pub end_0 : Line fed.answer done EndWhole
+        (Gives done 0 0 (finish builtin r.context (st_of r.held)) (closed_by r.context r.taken))
+    end_0 = record { only = end_only done; given = λ w. answered d (is_whole w); so = λ w. gives d (is_whole w) }
+
+    -- No other answer is given.
+    pub end_no_other : EndOneOf fed.answer
+    end_no_other = subst EndOneOf (sym end_cause.2) end_cause.3

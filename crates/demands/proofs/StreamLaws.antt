@@ -193,7 +193,7 @@ module _ {context : Context} {r : Stream} {t text errors : List ℕ} {phase : Ph
   called_held =
       let s = called-so c in
       let h = Held.held s.calls in
-      (h.0 ∙ s.summed, h.1, s.g, s.is.0, s.is.1, h.2)
+      (h.0 ∙ s.summed, h.1, (s.g, s.is.0, s.is.1, h.2))
 
   pub called_open : is_open builtin r ≡ Held.is_still phase
   called_open = Held.open_until_closed (called-so c).calls

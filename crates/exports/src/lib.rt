@@ -45,8 +45,7 @@ fn decode_in(
 }
 
 // Decodes a whole source into `text`, and its errors as bytes into `errors`. The report: answer, text bytes, errors, place.
-#[unsafe(no_mangle)]
-pub extern "C" fn plankskein_decode(
+pub fn plankskein_decode(
     context: u32,
     source: &[u8],
     text: &mut [u8],
@@ -80,8 +79,7 @@ fn escape_in(mode: Mode, input: &[u8], out: &mut [u8], report: &mut [u8]) -> u32
 }
 
 // Escapes all of `input` into `out`. The report: answer, length of the result, 0, place.
-#[unsafe(no_mangle)]
-pub extern "C" fn plankskein_escape(
+pub fn plankskein_escape(
     mode: u32,
     input: &[u8],
     out: &mut [u8],
@@ -126,8 +124,7 @@ fn check_in(
 }
 
 // Judges a transcript. The report: answer, verdict, row, place.
-#[unsafe(no_mangle)]
-pub extern "C" fn plankskein_check(
+pub fn plankskein_check(
     context: u32,
     source: &[u8],
     rows: &[u8],

@@ -7,4 +7,5 @@ pub mod Starts
 pub mod Inputs
 pub mod LongInputs
 pub mod Examples
+pub mod ExampleCases
 pub mod ReportCalls
