@@ -7,6 +7,8 @@ use crate::rust::replay_rust;
 use crate::sources::make_source;
 use crate::stream::replay_stream;
 use crate::whole::replay_whole;
+use std::io;
+use std::io::Write;
 
 // The length of a head.
 pub(crate) const HEAD: usize = 17;
@@ -42,42 +44,45 @@ pub(crate) fn read_head(s: &[u8]) -> Head
 }
 
 // A record by the letter of its list.
-fn replay_kind(
+fn replay_kind<W: Write>(
+    output: &mut W,
     letter: u8,
     kind: u8,
     source: &[u8],
     before: &[u8],
     text: &mut [u8],
     errors: &mut [u32],
-) {
+) -> io::Result<()> {
     match letter {
-        b'W' => replay_whole(kind, source, before, text, errors),
-        b'S' => replay_stream(kind, source, before, text, errors),
-        b'B' => replay_report(source, text, errors),
-        _ => replay_rust(kind, source, text, errors),
+        b'W' => replay_whole(output, kind, source, before, text, errors),
+        b'S' => replay_stream(output, kind, source, before, text, errors),
+        b'B' => replay_report(output, source, text, errors),
+        _ => replay_rust(output, kind, source, text, errors),
     }
 }
 
 // A record with just the rooms that its head asks for, and what follows the head.
-pub(crate) fn replay_record(
+pub(crate) fn replay_record<W: Write>(
+    output: &mut W,
     letter: u8,
     head: Head,
     rest: &[u8],
     source: &mut [u8],
     text: &mut [u8],
     errors: &mut [u32],
-) {
+) -> io::Result<()> {
     let size = least(head.size, source.len());
     let bytes = least(head.text, text.len());
     let numbers = least(head.errors, errors.len());
     let before = least(head.before, rest.len());
     make_source(&mut source[0..size], &rest[before..]);
     replay_kind(
+        output,
         letter,
         head.kind,
         &source[0..size],
         &rest[0..before],
         &mut text[0..bytes],
         &mut errors[0..numbers],
-    );
+    )
 }

@@ -2,11 +2,18 @@
 use crate::lines::{put_byte, put_bytes, put_number};
 use crate::numbers::least;
 use reporting::report;
+use std::io;
+use std::io::Write;
 
 // An input's report, in the rooms that its record asks for. The kind has no use here: there is one kind of input.
-pub(crate) fn replay_report(input: &[u8], text: &mut [u8], errors: &mut [u32]) {
+pub(crate) fn replay_report<W: Write>(
+    output: &mut W,
+    input: &[u8],
+    text: &mut [u8],
+    errors: &mut [u32],
+) -> io::Result<()> {
     let written = least(report(input, text, errors), text.len());
-    put_number(written);
-    put_byte(b'\n');
-    put_bytes(&text[0..written]);
+    put_number(output, written)?;
+    put_byte(output, b'\n')?;
+    put_bytes(output, &text[0..written])
 }

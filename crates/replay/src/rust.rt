@@ -5,36 +5,60 @@ use crate::sources::context_of;
 use crate::whole::mode_of;
 use decoder::decode_whole;
 use escaper::escape;
+use std::io;
+use std::io::Write;
 
 // HEX CODE CODE ..; the Rust refuses nothing, and so an answer other than 0 and 7 has a line of its own.
-fn put_answer(answer: u32, text: &[u8], errors: &[u32]) {
+fn put_answer<W: Write>(
+    output: &mut W,
+    answer: u32,
+    text: &[u8],
+    errors: &[u32],
+) -> io::Result<()> {
     if answer == 0 || answer == 7 {
-        put_all(text);
-        put_errors(errors, false);
-        put_byte(b'\n');
+        put_all(output, text)?;
+        put_errors(output, errors, false)?;
+        put_byte(output, b'\n')
     } else {
-        put_bytes(b"refused\n");
+        put_bytes(output, b"refused\n")
     }
 }
 
-fn replay_decode(kind: u8, source: &[u8], text: &mut [u8], errors: &mut [u32]) {
+fn replay_decode<W: Write>(
+    output: &mut W,
+    kind: u8,
+    source: &[u8],
+    text: &mut [u8],
+    errors: &mut [u32],
+) -> io::Result<()> {
     let decoded = decode_whole(context_of(kind), source, text, errors);
     let bytes = least(decoded.text as usize, text.len());
     let numbers = least(2 * decoded.errors as usize, errors.len());
-    put_answer(decoded.answer, &text[0..bytes], &errors[0..numbers]);
+    put_answer(output, decoded.answer, &text[0..bytes], &errors[0..numbers])
 }
 
-fn replay_escape(kind: u8, source: &[u8], text: &mut [u8]) {
+fn replay_escape<W: Write>(
+    output: &mut W,
+    kind: u8,
+    source: &[u8],
+    text: &mut [u8],
+) -> io::Result<()> {
     let escaped = escape(mode_of(kind), source, text);
     let bytes = least(escaped.text as usize, text.len());
-    put_answer(escaped.answer, &text[0..bytes], &[]);
+    put_answer(output, escaped.answer, &text[0..bytes], &[])
 }
 
 // A call by its kind.
-pub(crate) fn replay_rust(kind: u8, source: &[u8], text: &mut [u8], errors: &mut [u32]) {
+pub(crate) fn replay_rust<W: Write>(
+    output: &mut W,
+    kind: u8,
+    source: &[u8],
+    text: &mut [u8],
+    errors: &mut [u32],
+) -> io::Result<()> {
     match kind {
-        b'T' | b'A' => replay_decode(kind, source, text, errors),
-        b't' | b'a' => replay_escape(kind, source, text),
-        _ => put_bytes(b"another kind of record\n"),
+        b'T' | b'A' => replay_decode(output, kind, source, text, errors),
+        b't' | b'a' => replay_escape(output, kind, source, text),
+        _ => put_bytes(output, b"another kind of record\n"),
     }
 }

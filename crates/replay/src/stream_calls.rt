@@ -8,6 +8,8 @@ use crate::numbers::least;
 use crate::streams::{put_stream, sum_stream};
 use crate::sums::{mix, mix_bytes, mix_numbers};
 use decoder::{Fed, Stream};
+use std::io;
+use std::io::Write;
 use std::num::wrapping_add_u32;
 
 // What is kept of calls: how they are shown, how many there were, the sum of what they handed back, whether one touched what it had to leave (1), and
@@ -34,39 +36,65 @@ pub(crate) const BARE: u32 = 1;
 pub(crate) const FULL: u32 = 2;
 
 // ` | `, and ANSWER TAKEN TEXT ERRORS PLACE HEX CODE@PLACE CODE@PLACE ..
-fn put_call(counts: &[u32], text: &[u8], errors: &[u32]) {
-    put_bytes(b" | ");
-    put_counts(counts);
-    put_text(text);
-    put_errors(errors, true);
+fn put_call<W: Write>(
+    output: &mut W,
+    counts: &[u32],
+    text: &[u8],
+    errors: &[u32],
+) -> io::Result<()> {
+    put_bytes(output, b" | ")?;
+    put_counts(output, counts)?;
+    put_text(output, text)?;
+    put_errors(output, errors, true)
 }
 
 // A stream after its call, where it is shown.
-fn put_after(show: u32, stream: Stream) {
+fn put_after<W: Write>(output: &mut W, show: u32, stream: Stream) -> io::Result<()> {
     if show == FULL {
-        put_byte(b' ');
-        put_stream(stream);
+        put_byte(output, b' ')?;
+        put_stream(output, stream)?;
     }
+    Ok(())
 }
 
 // A call that wrote this text and these errors: shows it, and answers its sum.
-fn tell(show: u32, fed: Fed, text: &[u8], errors: &[u32]) -> u32 {
+fn tell<W: Write>(
+    output: &mut W,
+    show: u32,
+    fed: Fed,
+    text: &[u8],
+    errors: &[u32],
+) -> io::Result<u32> {
     let counts = [fed.answer, fed.taken, fed.text, fed.errors, fed.place];
     if show != HIDDEN {
-        put_call(&counts, text, errors);
-        put_after(show, fed.record);
+        put_call(output, &counts, text, errors)?;
+        put_after(output, show, fed.record)?;
     }
     let record = sum_stream(fed.record);
     let answer = mix_numbers(record, &counts);
-    mix_numbers(mix_bytes(answer, text), errors)
+    Ok(mix_numbers(mix_bytes(answer, text), errors))
 }
 
 // A call more, which wrote so much of its rooms.
-fn count(fed: Fed, text: &[u8], errors: &[u32], bytes: usize, numbers: usize, tally: &mut Tally)
+fn count<W: Write>(
+    output: &mut W,
+    fed: Fed,
+    text: &[u8],
+    errors: &[u32],
+    bytes: usize,
+    numbers: usize,
+    tally: &mut Tally,
+) -> io::Result<()>
     requires bytes_in_bounds { bytes ≤ length text.now }
     requires numbers_in_bounds { numbers ≤ length errors.now }
 {
-    let sum = tell(tally[SHOW], fed, &text[0..bytes], &errors[0..numbers]);
+    let sum = tell(
+        output,
+        tally[SHOW],
+        fed,
+        &text[0..bytes],
+        &errors[0..numbers],
+    )?;
     tally[CALLS] = wrapping_add_u32(tally[CALLS], 1);
     tally[SUM] = mix(tally[SUM], sum);
     tally[ANSWER] = fed.answer;
@@ -74,38 +102,48 @@ fn count(fed: Fed, text: &[u8], errors: &[u32], bytes: usize, numbers: usize, ta
     if !bytes_marked(text, bytes) || !numbers_marked(errors, numbers) {
         tally[TOUCHED] = 1;
     }
+    Ok(())
 }
 
 // A call more, whose rooms are given.
-fn called(fed: Fed, text: &mut [u8], errors: &mut [u32], tally: &mut Tally) {
+fn called<W: Write>(
+    output: &mut W,
+    fed: Fed,
+    text: &mut [u8],
+    errors: &mut [u32],
+    tally: &mut Tally,
+) -> io::Result<()> {
     let bytes = least(fed.text as usize, text.len());
     let numbers = least(2 * fed.errors as usize, errors.len());
-    count(fed, text, errors, bytes, numbers, tally);
+    count(output, fed, text, errors, bytes, numbers, tally)?;
     mark_bytes(text);
     mark_numbers(errors);
+    Ok(())
 }
 
 // A chunk is fed.
-pub(crate) fn feed(
+pub(crate) fn feed<W: Write>(
+    output: &mut W,
     stream: Stream,
     chunk: &[u8],
     text: &mut [u8],
     errors: &mut [u32],
     tally: &mut Tally,
-) -> Stream {
+) -> io::Result<Stream> {
     let fed = stream.feed(chunk, text, errors);
-    called(fed, text, errors, tally);
-    fed.record
+    called(output, fed, text, errors, tally)?;
+    Ok(fed.record)
 }
 
 // The stream is ended.
-pub(crate) fn end(
+pub(crate) fn end<W: Write>(
+    output: &mut W,
     stream: Stream,
     text: &mut [u8],
     errors: &mut [u32],
     tally: &mut Tally,
-) -> Stream {
+) -> io::Result<Stream> {
     let fed = stream.end(text, errors);
-    called(fed, text, errors, tally);
-    fed.record
+    called(output, fed, text, errors, tally)?;
+    Ok(fed.record)
 }

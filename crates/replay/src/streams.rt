@@ -3,6 +3,8 @@ use crate::lines::{put_byte, put_number, put_text};
 use crate::sums::{low, mix_numbers, mix_trimmed, trimmed};
 use decoder::{State, Stream};
 use standard::Context;
+use std::io;
+use std::io::Write;
 
 fn context_letter(context: Context) -> u8 {
     match context {
@@ -69,38 +71,39 @@ pub(crate) fn sum_stream(stream: Stream) -> u32 {
 }
 
 // LETTER, or LETTER BASE=VALUE.
-fn put_state(state: Letter) {
-    put_byte(state.letter);
+fn put_state<W: Write>(output: &mut W, state: Letter) -> io::Result<()> {
+    put_byte(output, state.letter)?;
     if state.letter == b'N' {
-        put_number(state.base as usize);
-        put_byte(b'=');
-        put_number(state.value as usize);
+        put_number(output, state.base as usize)?;
+        put_byte(output, b'=')?;
+        put_number(output, state.value as usize)?;
     }
+    Ok(())
 }
 
 // All bytes but for the zeros at the end, as text, and their count: HEX/COUNT, and a space.
-fn put_trimmed(bytes: &[u8], count: usize) {
+fn put_trimmed<W: Write>(output: &mut W, bytes: &[u8], count: usize) -> io::Result<()> {
     let shown = trimmed(bytes);
-    put_text(&bytes[0..shown]);
-    put_byte(b'/');
-    put_number(count);
-    put_byte(b' ');
+    put_text(output, &bytes[0..shown])?;
+    put_byte(output, b'/')?;
+    put_number(output, count)?;
+    put_byte(output, b' ')
 }
 
 // CONTEXT STATE@PLACE STORE/COUNT PART/COUNT TAKEN
-pub(crate) fn put_stream(stream: Stream) {
+pub(crate) fn put_stream<W: Write>(output: &mut W, stream: Stream) -> io::Result<()> {
     let context = stream.context;
     let held = stream.held;
     let state = held.state;
     let store = held.store;
     let part = stream.part;
-    put_byte(context_letter(context));
-    put_byte(b' ');
-    put_state(letter_of(state));
-    put_byte(b'@');
-    put_number(held.place as usize);
-    put_byte(b' ');
-    put_trimmed(&store, held.count);
-    put_trimmed(&part, stream.part_count);
-    put_number(stream.taken as usize);
+    put_byte(output, context_letter(context))?;
+    put_byte(output, b' ')?;
+    put_state(output, letter_of(state))?;
+    put_byte(output, b'@')?;
+    put_number(output, held.place as usize)?;
+    put_byte(output, b' ')?;
+    put_trimmed(output, &store, held.count)?;
+    put_trimmed(output, &part, stream.part_count)?;
+    put_number(output, stream.taken as usize)
 }
