@@ -1,7 +1,7 @@
 -- Transcripts at the edges of each reason, as one table, and the theorem that the definitions give exactly these.
 use Prim.Native.Nat.{ℕ}
 use Prim.Native.String.{String}
-use mathlib.Core.Path.{◌≡◌, refl}
+use mathlib.Core.Path.{refl}
 use mathlib.Core.List.{List, [], ◌∷◌}
 use Rattle.standard.specs.declared.Context.{Context}
 use Rattle.standard.specs.declared.Context.TheVariants.{Text, Attribute}

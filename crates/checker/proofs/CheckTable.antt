@@ -12,14 +12,14 @@ use Rattle.lists.specs.Bytes.{words}
 use Rattle.lists.proofs.Choice.{same?, below?}
 use Rattle.lists.proofs.Tables.{◌when◌with◌, Table}
 use Rattle.lists.proofs.TableLaws.{◌and◌, none, table_by}
-use Rattle.lists.proofs.Ways.{Way, plain, in_bytes, width, said}
+use Rattle.lists.proofs.Ways.{Way, plain, in_bytes, said}
 use Rattle.standard.specs.declared.Context.{Context}
 use Rattle.standard.specs.Answers.{done, ill_formed, nul, too_long, context_end, not_whole}
 use Rattle.standard.specs.NameList.{builtin}
-use Rattle.standard.specs.Reading.{Stop, stop_of, covered, readable}
-use Rattle.standard.proofs.Stops.{OneOf, stops_with}
+use Rattle.standard.specs.Reading.{stop_of, covered, readable}
+use Rattle.standard.proofs.Stops.{stops_with}
 use Rattle.checker.specs.declared.checking.Checked.{Checked}
-use Rattle.checker.specs.Transcript.{right, Verdict, verdict, verdict_on, checked, checked_of, checked_bytes}
+use Rattle.checker.specs.Transcript.{right, verdict, verdict_on, checked, checked_of, checked_bytes}
 use Rattle.checker.proofs.CheckLaws.{check_order, bytes_order}
 use Rattle.checker.proofs.RightRows.{InGroups}
 

@@ -1,8 +1,8 @@
 -- Laws of the definition of the verdict: what it finds of a row, and of rows, is what the relations of RightRows say.
 use Prim.Native.Nat.{ℕ, suc, ◌+◌, ◌*◌, ◌%◌, ◌≤◌, ◌<◌}
 use mathlib.Core.Path.{◌≡◌, refl, sym, ◌∙◌, ap, subst}
-use mathlib.Core.List.{List, [], ◌∷◌, ◌++◌, append-nil}
-use mathlib.Core.Bool.{Bool, true, false, not, ◌&&◌}
+use mathlib.Core.List.{List, [], ◌∷◌, ◌++◌}
+use mathlib.Core.Bool.{Bool, true, not, ◌&&◌}
 use mathlib.Core.Logic.{◌⊎◌, inl, inr, ⊎_elim}
 use native.Mathlib.Omega.{arith}
 use lib.Dec.{eqb}
@@ -15,29 +15,9 @@ use Rattle.lists.proofs.Every.{All}
 use Rattle.standard.specs.Errors.{numbers}
 use Rattle.standard.specs.Names.{stands}
 use Rattle.standard.specs.Pieces.{Piece}
-use Rattle.standard.specs.Reading.{Reading, ◌⊕◌, joined}
-use Rattle.standard.proofs.Joining.{numbers-append, numbers-length}
-use Rattle.checker.specs.Transcript.{
-  Row,
-  row,
-  rows_of,
-  Left,
-  left,
-  total,
-  reached,
-  wrong,
-  after,
-  spent,
-  Verdict,
-  verdict,
-  judge,
-  right,
-  no_source,
-  no_piece_end,
-  text_differs,
-  errors_differ,
-  remains,
-}
+use Rattle.standard.specs.Reading.{Reading, joined}
+use Rattle.standard.proofs.Joining.{numbers-length}
+use Rattle.checker.specs.Transcript.{Row, rows_of, Left, left, total, reached, wrong, after, spent, Verdict, verdict, judge, right, text_differs, errors_differ, remains}
 use Rattle.checker.proofs.Meetings.{stands-front, front-stands}
 use Rattle.checker.proofs.RightRows.{
   PieceEnd,

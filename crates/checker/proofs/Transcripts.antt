@@ -1,11 +1,11 @@
 -- Demand 3 by the definitions: which transcripts are accepted, and what is named of the others.
-use Prim.Native.Nat.{ℕ, ◌+◌, ◌*◌, ◌%◌, ◌≤◌, ◌<◌}
-use mathlib.Core.Path.{◌≡◌, refl, sym, ◌∙◌, ap}
+use Prim.Native.Nat.{ℕ, ◌*◌, ◌≤◌, ◌<◌}
+use mathlib.Core.Path.{◌≡◌, refl, ◌∙◌, ap}
 use mathlib.Core.List.{List, [], ◌∷◌, append-nil}
 use mathlib.Core.Bool.{true}
 use mathlib.Core.Logic.{◌↔◌, inl, inr}
 use native.Mathlib.Omega.{arith}
-use lib.ListN.{length, length-append}
+use lib.ListN.{length}
 use Rattle.lists.proofs.Every.{All}
 use Rattle.lists.proofs.Tables.{Line, ◌when◌with◌, Table}
 use Rattle.lists.proofs.TableLaws.{◌and◌, none, Some, table_by, holds}
@@ -16,7 +16,7 @@ use Rattle.standard.specs.Errors.{numbers}
 use Rattle.standard.specs.Answers.{done}
 use Rattle.standard.specs.NameList.{builtin}
 use Rattle.standard.specs.Pieces.{Piece}
-use Rattle.standard.specs.Reading.{stop_of, covered, readable, pieces_from, pieces, decode}
+use Rattle.standard.specs.Reading.{covered, readable, pieces_from, pieces, decode}
 use Rattle.standard.proofs.Joining.{numbers-length}
 use Rattle.standard.proofs.Stops.{stop-place}
 use Rattle.standard.proofs.Covered.{covered_length}

@@ -2,11 +2,13 @@
 // write for its stdin is made from a model of document 01 (tests/chunks.py).
 #![tactic(auto)]
 
-ghost use Rattle.std.specs.Prelude.{◌+◌, ◌*◌, ◌≤◌, ◌≡◌, length};
+ghost use Rattle.std.specs.Prelude.{◌+◌, ◌*◌, ◌≤◌, ◌≡◌, length, IfOk};
 
 use decoder::{Fed, Stream};
-use libc::{STDIN_FILENO, STDOUT_FILENO};
+use input::read_full;
 use standard::Context;
+use std::io;
+use std::io::{Read, Write};
 
 const CHUNK: usize = 24;
 
@@ -18,53 +20,45 @@ const ALL_TAKEN: u32 = 0;
 
 const ROOM_USED_UP: u32 = 6;
 
-fn put(bytes: &[u8]) {
-    io::write_all(STDOUT_FILENO, bytes);
-}
-
-// A word, and a number.
-fn put_number(word: &[u8], number: u32) {
-    put(word);
-    io::print_decimal(STDOUT_FILENO, number as u64);
-}
-
 // Errors, two numbers each: ` CODE@PLACE`.
-fn put_errors(numbers: &[u32]) {
+fn put_errors<W: Write>(output: &mut W, numbers: &[u32]) -> io::Result<()> {
     let mut i: usize = 1;
     while i < numbers.len() {
-        put_number(b" ", numbers[i - 1]);
-        put_number(b"@", numbers[i]);
+        let code = numbers[i - 1];
+        let place = numbers[i];
+        write!(output, " {code}@{place}")?;
         i += 2;
     }
+    Ok(())
 }
 
 // The line of a call, with what it wrote into its rooms: ANSWER TAKEN [TEXT] CODE@PLACE ..
-fn show(fed: Fed, text: &[u8], errors: &[u32])
+fn show<W: Write>(output: &mut W, fed: Fed, text: &[u8], errors: &[u32]) -> io::Result<()>
     requires { (fed.text ≤ length text.now) × (2 * fed.errors ≤ length errors.now) }
 {
     let bytes = fed.text as usize;
     let numbers = 2 * fed.errors as usize;
-    put_number(b"", fed.answer);
-    put_number(b" ", fed.taken);
-    put(b" [");
-    put(&text[0..bytes]);
-    put(b"]");
-    put_errors(&errors[0..numbers]);
-    put(b"\n");
+    let answer = fed.answer;
+    let taken = fed.taken;
+    write!(output, "{answer} {taken} [")?;
+    output.write_all(&text[0..bytes])?;
+    output.write_all(b"]")?;
+    put_errors(output, &errors[0..numbers])?;
+    output.write_all(b"\n")
 }
 
 // Feeds a chunk, and what answer 6 leaves of it again. Where the last answer is 0, all of it was taken.
-fn feed_all(mut stream: Stream, chunk: &[u8]) -> Fed
-    ensures { result.answer ≡ 0 → result.«record».taken ≡ stream.taken + length chunk.now }
+fn feed_all<W: Write>(output: &mut W, mut stream: Stream, chunk: &[u8]) -> io::Result<Fed>
+    ensures { IfOk result (λ fed. fed.answer ≡ 0 → fed.«record».taken ≡ stream.taken + length chunk.now) }
 {
     let mut text = [0u8; TEXT_ROOM];
     let mut errors = [0u32; NUMBERS_ROOM];
     let mut at: usize = 0;
     loop {
         let fed = stream.feed(&chunk[at..], &mut text, &mut errors);
-        show(fed, &text, &errors);
+        show(output, fed, &text, &errors)?;
         if fed.answer != ROOM_USED_UP {
-            return fed;
+            return Ok(fed);
         }
         at += fed.taken as usize;
         stream = fed.record;
@@ -72,33 +66,38 @@ fn feed_all(mut stream: Stream, chunk: &[u8]) -> Fed
 }
 
 // The source ends: what is still held is written.
-fn end(stream: Stream) -> Fed {
+fn end<W: Write>(output: &mut W, stream: Stream) -> io::Result<Fed> {
     let mut text = [0u8; TEXT_ROOM];
     let mut errors = [0u32; NUMBERS_ROOM];
     let fed = stream.end(&mut text, &mut errors);
-    show(fed, &text, &errors);
-    fed
+    show(output, fed, &text, &errors)?;
+    Ok(fed)
 }
 
-// Decodes what standard input has. Hands back the call that ends it: `end`, or a chunk that closed the stream or was refused.
-fn decode(mut stream: Stream) -> Fed {
+// Decodes what a reader has. Hands back the call that ends it: `end`, or a chunk that closed the stream or was refused.
+fn decode<R: Read, W: Write>(
+    reader: &mut R,
+    output: &mut W,
+    mut stream: Stream,
+) -> io::Result<Fed> {
     let mut chunk = [0u8; CHUNK];
     loop {
-        let count = io::read_full(STDIN_FILENO, &mut chunk);
+        let count = read_full(reader, &mut chunk)?;
         if count == 0 {
-            return end(stream);
+            return end(output, stream);
         }
-        let fed = feed_all(stream, &chunk[..count]);
+        let fed = feed_all(output, stream, &chunk[..count])?;
         if fed.answer != ALL_TAKEN {
-            return fed;
+            return Ok(fed);
         }
         stream = fed.record;
     }
 }
 
-fn main() {
-    let fed = decode(Stream::new(Context::Text));
-    put_number(b"answer ", fed.answer);
-    put_number(b", place ", fed.place);
-    put(b"\n");
+fn main(rt: HostRuntime) -> io::Result<()> {
+    let mut output = io::writer(&rt);
+    let fed = decode(&mut rt.stdin(), &mut output, Stream::new(Context::Text))?;
+    let answer = fed.answer;
+    let place = fed.place;
+    writeln!(output, "answer {answer}, place {place}")
 }

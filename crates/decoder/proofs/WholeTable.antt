@@ -1,12 +1,12 @@
 -- The table of answers of whole decoding, by the definitions: when each is given, and what result and rooms then are.
-use Prim.Native.Nat.{ℕ, ◌+◌, ◌*◌, ◌/◌, ◌%◌, ◌≤◌, ◌<◌}
-use mathlib.Core.Path.{◌≡◌, refl, sym, ◌∙◌, ap, subst}
+use Prim.Native.Nat.{ℕ, ◌+◌, ◌*◌, ◌≤◌, ◌<◌}
+use mathlib.Core.Path.{◌≡◌, refl, sym, ◌∙◌, ap}
 use mathlib.Core.List.{List, [], ◌∷◌}
 use mathlib.Core.Bool.{true, ◌||◌}
 use mathlib.Core.Logic.{◌⊎◌, inl, inr, ⊎_elim, ⊎_map}
 use native.Mathlib.Omega.{arith}
 use lib.Dec.{eqb}
-use lib.ListN.{length, take, drop, length-take}
+use lib.ListN.{length, take, drop}
 use lib.Seq.{sets}
 use Rattle.lists.specs.Notation.{if◌then◌else◌}
 use Rattle.lists.proofs.Choice.{below?}
@@ -17,7 +17,7 @@ use Rattle.lists.proofs.TableLaws.{◌and◌, none, table_by, holds}
 use Rattle.standard.proofs.Covered.{covered_length, text_short, errors_few}
 use Rattle.standard.proofs.Codes.{Placed, errors-placed}
 use Rattle.standard.proofs.Joining.{numbers-length}
-use Rattle.lists.proofs.Ways.{Way, width, laid, said, room, Says, Small}
+use Rattle.lists.proofs.Ways.{Way, width, laid, room, Says, Small}
 use Rattle.lists.proofs.WayLaws.{laying, written-says, written_keeps}
 use Rattle.standard.specs.declared.Context.{Context}
 use Rattle.standard.specs.Answers.{done, ill_formed, nul, too_long, context_end, room_asked}

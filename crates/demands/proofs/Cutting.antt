@@ -13,7 +13,7 @@ use Rattle.lists.proofs.Every.{All}
 use Rattle.standard.specs.declared.Context.{Context}
 use Rattle.standard.specs.Answers.{done, ill_formed, nul, too_long, stream_too_long, no_room, room_used_up, context_end, closed, longest_stream}
 use Rattle.standard.specs.NameList.{builtin}
-use Rattle.standard.specs.Reading.{Stop, stops, stop_of, covered, Reading, ◌⊕◌, decode}
+use Rattle.standard.specs.Reading.{Stop, stop_of, covered, Reading, ◌⊕◌, decode}
 use Rattle.standard.proofs.Joining.{⊕-assoc, ⊕-none}
 use Rattle.decoder.specs.declared.stream.Stream.{Stream}
 use Rattle.decoder.specs.Held.{released}

@@ -22,7 +22,7 @@ use Rattle.escaper.specs.declared.Mode.TheVariants as mode
 use Rattle.escaper.specs.declared.Escaped.{Escaped}
 use Rattle.escaper.specs.Escape.{escape_written, escaped_of, Escapes}
 use Rattle.checker.specs.declared.checking.Checked.{Checked}
-use Rattle.checker.specs.Transcript.{verdict, checked_bytes}
+use Rattle.checker.specs.Transcript.{checked_bytes}
 use Rattle.exports.specs.Exports.{Given, untouched, meant, context_of, mode_of, asked, decodes, escapes, checks, Gives}
 use Rattle.exports.proofs.Laws.{report-whole, asked-length, asked-text, asked_attribute, asked-other}
 use Rattle.demands.proofs.Lines.{Line}

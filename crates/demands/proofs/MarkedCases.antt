@@ -1,5 +1,5 @@
 -- Document 01, 'Marked sources': M1 to M14 as one table, and the theorem that the definitions give exactly these.
-use mathlib.Core.Path.{◌≡◌, refl}
+use mathlib.Core.Path.{refl}
 use mathlib.Core.List.{List, [], ◌∷◌}
 use Rattle.standard.specs.declared.Context.TheVariants.{Text, Attribute}
 use Rattle.standard.specs.Errors.{error}

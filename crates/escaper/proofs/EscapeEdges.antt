@@ -1,6 +1,6 @@
 -- Inputs at the edges of escaping, as one table, and the theorem that the definitions give exactly these.
 use Prim.Native.Nat.{ℕ}
-use mathlib.Core.Path.{◌≡◌, refl}
+use mathlib.Core.Path.{refl}
 use mathlib.Core.List.{List, [], ◌∷◌}
 use Rattle.standard.specs.Utf8.{bytes}
 use Rattle.standard.proofs.Computing.{computing}

@@ -1,7 +1,7 @@
 -- Calls of the exports at their edges, as tables, and the theorem that the definitions give exactly these.
 use Prim.Native.Nat.{ℕ, zero, suc}
 use Prim.Native.String.{String}
-use mathlib.Core.Path.{◌≡◌, refl}
+use mathlib.Core.Path.{refl}
 use mathlib.Core.List.{List, [], ◌∷◌}
 use Rattle.lists.specs.Bytes.{fours, words}
 use Rattle.lists.proofs.Cases.{Case, ◌gives◌, Hold}

@@ -79,12 +79,7 @@ fn escape_in(mode: Mode, input: &[u8], out: &mut [u8], report: &mut [u8]) -> u32
 }
 
 // Escapes all of `input` into `out`. The report: answer, length of the result, 0, place.
-pub fn plankskein_escape(
-    mode: u32,
-    input: &[u8],
-    out: &mut [u8],
-    report: &mut [u8],
-) -> u32
+pub fn plankskein_escape(mode: u32, input: &[u8], out: &mut [u8], report: &mut [u8]) -> u32
     ensures { Gives (asked report.old (mode_of mode) (escapes input.now out.old))
         out.old [] report.old result out.new [] report.new }
 {

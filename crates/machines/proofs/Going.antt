@@ -11,7 +11,7 @@ use Rattle.standard.specs.Answers.{done, text_room, errors_room}
 use Rattle.standard.specs.Utf8.{read_char}
 use Rattle.standard.proofs.Utf8.{read-begun}
 use Rattle.machines.specs.Machine.{takes, Machine}
-use Rattle.machines.specs.Stream.{At, at_by, place_of, lacks_room, byte, onward, walk}
+use Rattle.machines.specs.Stream.{At, at_by, lacks_room, byte, onward, walk}
 use Rattle.machines.specs.Laws.{Joins, Sizes, ahead}
 use Rattle.machines.proofs.Walks.{walk_goes_on}
 use Rattle.machines.proofs.Table.{ahead_none, ahead_on, left_none, left_join}

@@ -1,7 +1,7 @@
 -- What is written of a source after `decode_whole` has read it, one law for each way that it stops.
 use Prim.Native.Nat.{ℕ, ◌+◌, ◌*◌, ◌≤◌}
 use Prim.Native.Char.{code}
-use mathlib.Core.Path.{◌≡◌, sym, ◌∙◌, ap}
+use mathlib.Core.Path.{◌≡◌, sym, ap}
 use mathlib.Core.List.{List, [], ◌∷◌, ◌++◌, append_assoc}
 use mathlib.Core.Bool.{true}
 use mathlib.Core.Logic.{inl, inr}

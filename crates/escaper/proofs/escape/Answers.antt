@@ -29,7 +29,7 @@ returns-then-fault-eq1 c =
 pub escaped_length-text-requires : goal.escaped_length-text-requires
 escaped_length-text-requires c =
     let faultless : (escape_stop c.args.input.now).answer ≡ ill_formed → ⊥ =
-        rw c.find_stop-fault.ensures.0 at c.if-fault-eq1.false in
+    rw c.find_stop-fault.ensures.0 at c.if-fault-eq1.false in
     (omega arith, no_fault c.args.input.now faultless)
 
 pub overflow_cast-result-then-out-text : goal.overflow_cast-result-then-out-text
@@ -40,7 +40,7 @@ overflow_cast-result-then-out-text c =
 pub returns-then-out-text : goal.returns-then-out-text
 returns-then-out-text c =
     let faultless : (escape_stop c.args.input.now).answer ≡ ill_formed → ⊥ =
-        rw c.find_stop-fault.ensures.0 at c.if-fault-eq1.false in
+    rw c.find_stop-fault.ensures.0 at c.if-fault-eq1.false in
     let a = c.args in
     let n = c.escaped_length-text.ensures in
     let w = answer_room a.mode a.input.now (length a.out.now) (omega arith) faultless (omega arith) in
@@ -49,7 +49,7 @@ returns-then-out-text c =
 pub write_escaped-end-requires : goal.write_escaped-end-requires
 write_escaped-end-requires c =
     let faultless : (escape_stop c.args.input.now).answer ≡ ill_formed → ⊥ =
-        rw c.find_stop-fault.ensures.0 at c.if-fault-eq1.false in
+    rw c.find_stop-fault.ensures.0 at c.if-fault-eq1.false in
     let n = c.escaped_length-text.ensures in
     let s = c.args.input.now in
     (no_fault s faultless, omega arith)
@@ -62,7 +62,7 @@ overflow_cast-result-2 c =
 pub returns : goal.returns
 returns c =
     let faultless : (escape_stop c.args.input.now).answer ≡ ill_formed → ⊥ =
-        rw c.find_stop-fault.ensures.0 at c.if-fault-eq1.false in
+    rw c.find_stop-fault.ensures.0 at c.if-fault-eq1.false in
     let a = c.args in
     let n = c.escaped_length-text.ensures in
     let p = c.write_escaped-end.ensures in

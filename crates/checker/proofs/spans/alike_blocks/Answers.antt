@@ -1,4 +1,3 @@
-use Prim.Native.Nat.{◌-◌}
 use native.Mathlib.Omega.{arith}
 use Rattle.checker.proofs.SpanLaws.{alike_at, each_none, alike-join}
 use Rattle.checker.proofs.spans.alike_blocks.Goals as goal

@@ -19,68 +19,68 @@ ordinary_span-from-requires c = c.loop-context.invariant.there
 pub returns-then-from-s : goal.returns-then-from-s
 returns-then-from-s c =
     let passed : (let a = c.args in Looking (calls_for a.context) a.s.now c.ordinary_span-from.result) =
-        let context = c.args.context in
-        let e = c.ordinary_span-from.ensures in
-        let to = c.ordinary_span-from.result in
-        let at = c.loop-context.at in
-        let all : at + (to - at) ≡ to = omega (arith, e.0) in
-        rw all at (looking_span c.loop-context.invariant (ordinary (end_byte context)) (ascii-calls context) (to - at) (omega (arith, e.0, e.1)) e.2) in
+    let context = c.args.context in
+    let e = c.ordinary_span-from.ensures in
+    let to = c.ordinary_span-from.result in
+    let at = c.loop-context.at in
+    let all : at + (to - at) ≡ to = omega (arith, e.0) in
+    rw all at (looking_span c.loop-context.invariant (ordinary (end_byte context)) (ascii-calls context) (to - at) (omega (arith, e.0, e.1)) e.2) in
     stop_is done _ (looking_end passed (omega (arith, c.if-from-s.true)))
 
 pub slice_bounds-read_char-count : goal.slice_bounds-read_char-count
 slice_bounds-read_char-count c =
     let passed : (let a = c.args in Looking (calls_for a.context) a.s.now c.ordinary_span-from.result) =
-        let context = c.args.context in
-        let e = c.ordinary_span-from.ensures in
-        let to = c.ordinary_span-from.result in
-        let at = c.loop-context.at in
-        let all : at + (to - at) ≡ to = omega (arith, e.0) in
-        rw all at (looking_span c.loop-context.invariant (ordinary (end_byte context)) (ascii-calls context) (to - at) (omega (arith, e.0, e.1)) e.2) in
+    let context = c.args.context in
+    let e = c.ordinary_span-from.ensures in
+    let to = c.ordinary_span-from.result in
+    let at = c.loop-context.at in
+    let all : at + (to - at) ≡ to = omega (arith, e.0) in
+    rw all at (looking_span c.loop-context.invariant (ordinary (end_byte context)) (ascii-calls context) (to - at) (omega (arith, e.0, e.1)) e.2) in
     omega (arith, passed.there)
 
 pub slice_bounds-read_char-start : goal.slice_bounds-read_char-start
 slice_bounds-read_char-start c =
     let passed : (let a = c.args in Looking (calls_for a.context) a.s.now c.ordinary_span-from.result) =
-        let context = c.args.context in
-        let e = c.ordinary_span-from.ensures in
-        let to = c.ordinary_span-from.result in
-        let at = c.loop-context.at in
-        let all : at + (to - at) ≡ to = omega (arith, e.0) in
-        rw all at (looking_span c.loop-context.invariant (ordinary (end_byte context)) (ascii-calls context) (to - at) (omega (arith, e.0, e.1)) e.2) in
+    let context = c.args.context in
+    let e = c.ordinary_span-from.ensures in
+    let to = c.ordinary_span-from.result in
+    let at = c.loop-context.at in
+    let all : at + (to - at) ≡ to = omega (arith, e.0) in
+    rw all at (looking_span c.loop-context.invariant (ordinary (end_byte context)) (ascii-calls context) (to - at) (omega (arith, e.0, e.1)) e.2) in
     omega (arith, passed.there)
 
 pub returns-in_default : goal.returns-in_default
 returns-in_default c =
     let passed : (let a = c.args in Looking (calls_for a.context) a.s.now c.ordinary_span-from.result) =
-        let context = c.args.context in
-        let e = c.ordinary_span-from.ensures in
-        let to = c.ordinary_span-from.result in
-        let at = c.loop-context.at in
-        let all : at + (to - at) ≡ to = omega (arith, e.0) in
-        rw all at (looking_span c.loop-context.invariant (ordinary (end_byte context)) (ascii-calls context) (to - at) (omega (arith, e.0, e.1)) e.2) in
+    let context = c.args.context in
+    let e = c.ordinary_span-from.ensures in
+    let to = c.ordinary_span-from.result in
+    let at = c.loop-context.at in
+    let all : at + (to - at) ≡ to = omega (arith, e.0) in
+    rw all at (looking_span c.loop-context.invariant (ordinary (end_byte context)) (ascii-calls context) (to - at) (omega (arith, e.0, e.1)) e.2) in
     turn_other passed (omega (arith, passed.there, c.if-from-s.false)) c.read_char.ensures c.in_default.not-Char
 
 pub returns-then-answer-ne0 : goal.returns-then-answer-ne0
 returns-then-answer-ne0 c =
     let passed : (let a = c.args in Looking (calls_for a.context) a.s.now c.ordinary_span-from.result) =
-        let context = c.args.context in
-        let e = c.ordinary_span-from.ensures in
-        let to = c.ordinary_span-from.result in
-        let at = c.loop-context.at in
-        let all : at + (to - at) ≡ to = omega (arith, e.0) in
-        rw all at (looking_span c.loop-context.invariant (ordinary (end_byte context)) (ascii-calls context) (to - at) (omega (arith, e.0, e.1)) e.2) in
+    let context = c.args.context in
+    let e = c.ordinary_span-from.ensures in
+    let to = c.ordinary_span-from.result in
+    let at = c.loop-context.at in
+    let all : at + (to - at) ≡ to = omega (arith, e.0) in
+    rw all at (looking_span c.loop-context.invariant (ordinary (end_byte context)) (ascii-calls context) (to - at) (omega (arith, e.0, e.1)) e.2) in
     turn_called passed (omega (arith, passed.there, c.if-from-s.false)) c.read_char.ensures c.in-Char.is
     c.called_for-answer.ensures c.if-answer-ne0.true
 
 pub loop-context-preserved : goal.loop-context-preserved
 loop-context-preserved c =
     let passed : (let a = c.args in Looking (calls_for a.context) a.s.now c.ordinary_span-from.result) =
-        let context = c.args.context in
-        let e = c.ordinary_span-from.ensures in
-        let to = c.ordinary_span-from.result in
-        let at = c.loop-context.at in
-        let all : at + (to - at) ≡ to = omega (arith, e.0) in
-        rw all at (looking_span c.loop-context.invariant (ordinary (end_byte context)) (ascii-calls context) (to - at) (omega (arith, e.0, e.1)) e.2) in
+    let context = c.args.context in
+    let e = c.ordinary_span-from.ensures in
+    let to = c.ordinary_span-from.result in
+    let at = c.loop-context.at in
+    let all : at + (to - at) ≡ to = omega (arith, e.0) in
+    rw all at (looking_span c.loop-context.invariant (ordinary (end_byte context)) (ascii-calls context) (to - at) (omega (arith, e.0, e.1)) e.2) in
     turn_none passed (omega (arith, passed.there, c.if-from-s.false)) c.read_char.ensures c.in-Char.is
     c.called_for-answer.ensures c.if-answer-ne0.false
 
@@ -90,12 +90,12 @@ overflow_add-at c = omega (arith, (loop-context-preserved c).there)
 pub loop-context-smaller : goal.loop-context-smaller
 loop-context-smaller c =
     let passed : (let a = c.args in Looking (calls_for a.context) a.s.now c.ordinary_span-from.result) =
-        let context = c.args.context in
-        let e = c.ordinary_span-from.ensures in
-        let to = c.ordinary_span-from.result in
-        let at = c.loop-context.at in
-        let all : at + (to - at) ≡ to = omega (arith, e.0) in
-        rw all at (looking_span c.loop-context.invariant (ordinary (end_byte context)) (ascii-calls context) (to - at) (omega (arith, e.0, e.1)) e.2) in
+    let context = c.args.context in
+    let e = c.ordinary_span-from.ensures in
+    let to = c.ordinary_span-from.result in
+    let at = c.loop-context.at in
+    let all : at + (to - at) ≡ to = omega (arith, e.0) in
+    rw all at (looking_span c.loop-context.invariant (ordinary (end_byte context)) (ascii-calls context) (to - at) (omega (arith, e.0, e.1)) e.2) in
     omega (
       arith,
       (loop-context-preserved c).there,

@@ -1,4 +1,3 @@
-use Prim.Native.Nat.{◌-◌}
 use native.Mathlib.Omega.{arith}
 use Rattle.checker.proofs.RowByRow.{row-by-row, next_row, row_stops, row_on, rows_plain, after_last}
 use Rattle.checker.proofs.verdicts.judge.Goals as goal

@@ -7,15 +7,14 @@ use Rattle.decoder.proofs.Releasing.{fit_count, fit_long, none-gives, wrote_as}
 use Rattle.decoder.proofs.feeding.put_last.Goals as goal
 
 pub put_turn-requires : goal.put_turn-requires
-put_turn-requires c =
-    (
-      c.requires.2,
-      c.requires.3,
-      c.finish-released.ensures.within,
-      fit_count c.args.held c.requires.1,
-      fit_long c.args.held
-          c.requires.1,
-    )
+put_turn-requires c = (
+  c.requires.2,
+  c.requires.3,
+  c.finish-released.ensures.within,
+  fit_count c.args.held c.requires.1,
+  fit_long c.args.held
+      c.requires.1,
+)
 
 pub returns : goal.returns
 returns c =

@@ -1,4 +1,3 @@
-use Prim.Native.Nat.{◌-◌}
 use mathlib.Core.Path.{sym, ◌∙◌}
 use native.Mathlib.Omega.{arith}
 use Rattle.decoder.proofs.Room.{lacks-only}
@@ -51,8 +50,7 @@ bounds-chunk-at c =
 pub take_byte-next-requires : goal.take_byte-next-requires
 take_byte-next-requires c =
     let m = taken_moves c.loop-at.invariant c.skim_on-ahead.ensures in
-    let room = taken_free m c.lacks_room.ensures c.if-lacks_room.false in
-    (
+    let room = taken_free m c.lacks_room.ensures c.if-lacks_room.false in (
       c.requires.0,
       taken_open m,
       omega (arith, taken_count m, c.requires.2, m.there, c.if-at-chunk.false),

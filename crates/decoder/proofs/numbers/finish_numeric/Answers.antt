@@ -30,24 +30,24 @@ returns-then-n-eq13 c = rw c.if-n-eq13.true (refl, refl)
 pub returns-then-not-control : goal.returns-then-not-control
 returns-then-not-control c =
     let of_plain : (let n = c.args.n in meaning_of n ≡ (if control n && not (whitespace n) then means (replaced_by replacements n) 3 else means n 0)) =
-        meaning_scalar _ c.if-n-eq0.false c.if-n-gt1114111.false c.if-n-eq27.false
-        ∙ rw (sym c.noncharacter.ensures ∙ c.if-noncharacter.false, ne_eqb _ 0xD c.if-n-eq13.false) in
+    meaning_scalar _ c.if-n-eq0.false c.if-n-gt1114111.false c.if-n-eq27.false
+    ∙ rw (sym c.noncharacter.ensures ∙ c.if-noncharacter.false, ne_eqb _ 0xD c.if-n-eq13.false) in
     rw (of_plain, sym c.control.ensures ∙ c.if-not-control.true) (refl, refl)
 
 pub returns-then-whitespace : goal.returns-then-whitespace
 returns-then-whitespace c =
     let of_plain : (let n = c.args.n in meaning_of n ≡ (if control n && not (whitespace n) then means (replaced_by replacements n) 3 else means n 0)) =
-        meaning_scalar _ c.if-n-eq0.false c.if-n-gt1114111.false c.if-n-eq27.false
-        ∙ rw (sym c.noncharacter.ensures ∙ c.if-noncharacter.false, ne_eqb _ 0xD c.if-n-eq13.false) in
+    meaning_scalar _ c.if-n-eq0.false c.if-n-gt1114111.false c.if-n-eq27.false
+    ∙ rw (sym c.noncharacter.ensures ∙ c.if-noncharacter.false, ne_eqb _ 0xD c.if-n-eq13.false) in
     let of-control : (let n = c.args.n in meaning_of n ≡ (if not (whitespace n) then means (replaced_by replacements n) 3 else means n 0)) =
-        of_plain ∙ rw (sym c.control.ensures ∙ c.if-not-control.false) in
+    of_plain ∙ rw (sym c.control.ensures ∙ c.if-not-control.false) in
     rw (of-control, sym c.whitespace.ensures ∙ c.if-whitespace.true) (refl, refl)
 
 pub returns : goal.returns
 returns c =
     let of_plain : (let n = c.args.n in meaning_of n ≡ (if control n && not (whitespace n) then means (replaced_by replacements n) 3 else means n 0)) =
-        meaning_scalar _ c.if-n-eq0.false c.if-n-gt1114111.false c.if-n-eq27.false
-        ∙ rw (sym c.noncharacter.ensures ∙ c.if-noncharacter.false, ne_eqb _ 0xD c.if-n-eq13.false) in
+    meaning_scalar _ c.if-n-eq0.false c.if-n-gt1114111.false c.if-n-eq27.false
+    ∙ rw (sym c.noncharacter.ensures ∙ c.if-noncharacter.false, ne_eqb _ 0xD c.if-n-eq13.false) in
     let of-control : (let n = c.args.n in meaning_of n ≡ (if not (whitespace n) then means (replaced_by replacements n) 3 else means n 0)) =
-        of_plain ∙ rw (sym c.control.ensures ∙ c.if-not-control.false) in
+    of_plain ∙ rw (sym c.control.ensures ∙ c.if-not-control.false) in
     rw (of-control, sym c.whitespace.ensures ∙ c.if-whitespace.false) (c.replacement.ensures, refl)

@@ -12,13 +12,13 @@ use Rattle.decoder.proofs.pieces.reference.Goals as goal
 pub slice_bounds-numeric-count : goal.slice_bounds-numeric-count
 slice_bounds-numeric-count c =
     let after-hash : 0 < length c.args.rest.now =
-        next_there (λ b. eqb b (code "#")) 0 c.args.rest.now (sym c.next_is.ensures ∙ c.if-next_is.true) in
+    next_there (λ b. eqb b (code "#")) 0 c.args.rest.now (sym c.next_is.ensures ∙ c.if-next_is.true) in
     omega (arith, after-hash)
 
 pub slice_bounds-numeric-start : goal.slice_bounds-numeric-start
 slice_bounds-numeric-start c =
     let after-hash : 0 < length c.args.rest.now =
-        next_there (λ b. eqb b (code "#")) 0 c.args.rest.now (sym c.next_is.ensures ∙ c.if-next_is.true) in
+    next_there (λ b. eqb b (code "#")) 0 c.args.rest.now (sym c.next_is.ensures ∙ c.if-next_is.true) in
     omega (arith, after-hash)
 
 pub returns-then-next_is : goal.returns-then-next_is

@@ -1,7 +1,5 @@
-use Prim.Native.Nat.{◌-◌}
 use native.Mathlib.Omega.{arith}
 use lib.ListN.{length-drop}
-use borrow.Author.Tests.{not-false}
 use Rattle.standard.proofs.Skips.{rest_from}
 use Rattle.decoder.proofs.SkimLaws.{skims_start, skims_run, skims_alone, skims_free, skims_fits, alone-there, alone-stands}
 use Rattle.decoder.proofs.skimming.skim.Goals as goal

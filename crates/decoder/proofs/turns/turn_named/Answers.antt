@@ -25,21 +25,21 @@ slice_bounds-rest-end c =
 pub settle-requires : goal.settle-requires
 settle-requires c =
     let begins-byte : begins builtin (name_of c.args.held ++ ascii_of c.args.c ∷ []) ≡ c.begins_name.result =
-        begins_read c.requires.0 (rest_held c.requires.1 c.ascii-b.ensures c.hold-next.ensures) c.begins_name.ensures in
+    begins_read c.requires.0 (rest_held c.requires.1 c.ascii-b.ensures c.hold-next.ensures) c.begins_name.ensures in
     let rest = rest_held c.requires.1 c.ascii-b.ensures c.hold-next.ensures in
     (c.requires.0, c.requires.1, rest, ap (begins builtin) rest ∙ begins-byte ∙ c.if-not-begins_name.true)
 
 pub returns-then-not-begins_name : goal.returns-then-not-begins_name
 returns-then-not-begins_name c =
     let begins-byte : begins builtin (name_of c.args.held ++ ascii_of c.args.c ∷ []) ≡ c.begins_name.result =
-        begins_read c.requires.0 (rest_held c.requires.1 c.ascii-b.ensures c.hold-next.ensures) c.begins_name.ensures in
+    begins_read c.requires.0 (rest_held c.requires.1 c.ascii-b.ensures c.hold-next.ensures) c.begins_name.ensures in
     named_settles c.requires.1 c.args.context c.args.p (begins-byte ∙ c.if-not-begins_name.true)
     c.settle.ensures
 
 pub returns-then-b-eq59 : goal.returns-then-b-eq59
 returns-then-b-eq59 c =
     let begins-byte : begins builtin (name_of c.args.held ++ ascii_of c.args.c ∷ []) ≡ c.begins_name.result =
-        begins_read c.requires.0 (rest_held c.requires.1 c.ascii-b.ensures c.hold-next.ensures) c.begins_name.ensures in
+    begins_read c.requires.0 (rest_held c.requires.1 c.ascii-b.ensures c.hold-next.ensures) c.begins_name.ensures in
     let is = c.ascii-b.ensures in
     let semicolon = c.if-b-eq59.true in
     let rest = rest_held c.requires.1 is c.hold-next.ensures ∙ ap (λ (x : ℕ). name_of c.args.held ++ x ∷ []) (sym is ∙ semicolon) in
@@ -53,7 +53,7 @@ pub returns : goal.returns
 unfolding kind_of
 returns c =
     let begins-byte : begins builtin (name_of c.args.held ++ ascii_of c.args.c ∷ []) ≡ c.begins_name.result =
-        begins_read c.requires.0 (rest_held c.requires.1 c.ascii-b.ensures c.hold-next.ensures) c.begins_name.ensures in
+    begins_read c.requires.0 (rest_held c.requires.1 c.ascii-b.ensures c.hold-next.ensures) c.begins_name.ensures in
     let is = c.ascii-b.ensures in
     named_goes c.requires.1 c.args.context c.args.p (begins-byte ∙ c.if-not-begins_name.false)
     c.absorbed.ensures refl is c.hold-next.ensures (ascii_not 0x3B (omega arith) c.args.c is c.if-b-eq59.false)

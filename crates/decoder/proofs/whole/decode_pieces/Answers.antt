@@ -1,4 +1,3 @@
-use Prim.Native.Nat.{◌-◌}
 use native.Mathlib.Omega.{arith}
 use Rattle.lists.proofs.Layings.{laid-plainly}
 use Rattle.decoder.proofs.Walk.{going_start, going_on, going_room, going_end}

@@ -1,4 +1,3 @@
-use Prim.Native.Nat.{◌-◌}
 use native.Mathlib.Omega.{arith}
 use lib.ListN.{drop, length-append, length-drop}
 use Rattle.reporting.proofs.Writing.{writing_none, writing_on, writing_end}
