@@ -34,29 +34,24 @@ returns-then-decoded-eq0 c =
 
 pub slice_bounds-put_read-end-then-decoded-eq7 : goal.slice_bounds-put_read-end-then-decoded-eq7
 slice_bounds-put_read-end-then-decoded-eq7 c =
-    let k = called c.requires.0 c.requires.1 c.decode_whole-decoded.ensures in
-    let r = read_left k c.if-decoded-eq7.true in
-    numbers_there r
+    numbers_there (read_left (called c.requires.0 c.requires.1 c.decode_whole-decoded.ensures) c.if-decoded-eq7.true)
 
 pub slice_bounds-put_read-end-then-decoded-eq7-2 : goal.slice_bounds-put_read-end-then-decoded-eq7-2
 slice_bounds-put_read-end-then-decoded-eq7-2 c =
-    let k = called c.requires.0 c.requires.1 c.decode_whole-decoded.ensures in
-    let r = read_left k c.if-decoded-eq7.true in
-    simp length-take (omega (arith, numbers_there r))
+    simp length-take
+    (omega (arith, numbers_there (read_left (called c.requires.0 c.requires.1 c.decode_whole-decoded.ensures) c.if-decoded-eq7.true)))
 
 pub put_read-requires-then-decoded-eq7 : goal.put_read-requires-then-decoded-eq7
 unfolding computing_parts
 put_read-requires-then-decoded-eq7 c =
     let k = called c.requires.0 c.requires.1 c.decode_whole-decoded.ensures in
-    let r = read_left k c.if-decoded-eq7.true in
-    rest_room r (bytes "left ") _ (closing_left k c.if-decoded-eq7.true)
+    rest_room (read_left k c.if-decoded-eq7.true) (bytes "left ") _ (closing_left k c.if-decoded-eq7.true)
 
 pub returns-then-decoded-eq7 : goal.returns-then-decoded-eq7
 unfolding computing_parts
 returns-then-decoded-eq7 c =
     let k = called c.requires.0 c.requires.1 c.decode_whole-decoded.ensures in
-    let r = read_left k c.if-decoded-eq7.true in
-    rest_written r (bytes "left ") _ (closing_left k c.if-decoded-eq7.true) c.put_read-then-decoded-eq7.ensures
+    rest_written (read_left k c.if-decoded-eq7.true) (bytes "left ") _ (closing_left k c.if-decoded-eq7.true) c.put_read-then-decoded-eq7.ensures
 
 pub put_refused-requires : goal.put_refused-requires
 put_refused-requires c =

@@ -31,7 +31,7 @@ overflow_add-result-then-byte_row-2 c =
 
 pub returns-then-byte_row : goal.returns-then-byte_row
 returns-then-byte_row c =
-    judged_byte (λ z. omega (arith, c.if-source-eq0.false)) (omega (arith, c.if-s-at.false)) c.requires.0 c.requires.3
+    judged_byte (λ z. omega arith) (omega (arith, c.if-s-at.false)) c.requires.0 c.requires.3
     (c.byte_row.ensures c.if-byte_row.true)
 
 pub plain_row-requires : goal.plain_row-requires
@@ -43,18 +43,18 @@ overflow_add-result-then-plain_row-2 c = omega (arith, (c.plain_row.ensures c.if
 
 pub returns-then-plain_row : goal.returns-then-plain_row
 returns-then-plain_row c =
-    judged_plain (λ z. omega (arith, c.if-source-eq0.false)) (omega (arith, c.if-s-at.false)) c.requires.0 c.requires.3
+    judged_plain (λ z. omega arith) (omega (arith, c.if-s-at.false)) c.requires.0 c.requires.3
     (c.plain_row.ensures c.if-plain_row.true)
 
 pub returns-then-joint-at : goal.returns-then-joint-at
 returns-then-joint-at c =
-    judged_inside (λ z. omega (arith, c.if-source-eq0.false)) (omega (arith, c.if-s-at.false)) c.meet_pieces-joint.ensures
+    judged_inside (λ z. omega arith) (omega (arith, c.if-s-at.false)) c.meet_pieces-joint.ensures
     (λ z. omega (arith, c.if-joint-at.true))
     c.wrong_for-then-joint-at.ensures
 
 pub returns-then-not-met_text : goal.returns-then-not-met_text
 returns-then-not-met_text c =
-    judged_text (λ z. omega (arith, c.if-source-eq0.false)) (omega (arith, c.if-s-at.false)) c.meet_pieces-joint.ensures (omega (arith, c.if-joint-at.false))
+    judged_text (λ z. omega arith) (omega (arith, c.if-s-at.false)) c.meet_pieces-joint.ensures (omega (arith, c.if-joint-at.false))
     (not-true _ c.if-not-met_text.true)
     c.wrong_for-then-not-met_text.ensures
 
@@ -64,13 +64,13 @@ overflow_sub-met_text c =
 
 pub returns-then-met_text-t : goal.returns-then-met_text-t
 returns-then-met_text-t c =
-    judged_text_count (λ z. omega (arith, c.if-source-eq0.false)) (omega (arith, c.if-s-at.false)) c.meet_pieces-joint.ensures (omega (arith, c.if-joint-at.false))
+    judged_text_count (λ z. omega arith) (omega (arith, c.if-s-at.false)) c.meet_pieces-joint.ensures (omega (arith, c.if-joint-at.false))
     (not-false _ c.if-not-met_text.false) (λ z. omega (arith, c.if-met_text-t.true))
     c.wrong_for-then-met_text-t.ensures
 
 pub returns-then-not-met_errors : goal.returns-then-not-met_errors
 returns-then-not-met_errors c =
-    judged_errors (λ z. omega (arith, c.if-source-eq0.false)) (omega (arith, c.if-s-at.false)) c.meet_pieces-joint.ensures (omega (arith, c.if-joint-at.false))
+    judged_errors (λ z. omega arith) (omega (arith, c.if-s-at.false)) c.meet_pieces-joint.ensures (omega (arith, c.if-joint-at.false))
     (not-false _ c.if-not-met_text.false) (omega (arith, c.if-met_text-t.false)) (not-true _ c.if-not-met_errors.true)
     c.wrong_for-then-not-met_errors.ensures
 
@@ -84,13 +84,13 @@ overflow_mul-k c =
 
 pub returns-then-met_errors-e : goal.returns-then-met_errors-e
 returns-then-met_errors-e c =
-    judged_errors_count (λ z. omega (arith, c.if-source-eq0.false)) (omega (arith, c.if-s-at.false)) c.meet_pieces-joint.ensures
+    judged_errors_count (λ z. omega arith) (omega (arith, c.if-s-at.false)) c.meet_pieces-joint.ensures
     (omega (arith, c.if-joint-at.false)) (not-false _ c.if-not-met_text.false) (omega (arith, c.if-met_text-t.false)) (not-false _ c.if-not-met_errors.false)
     (λ z. omega (arith, c.if-met_errors-e.true))
     c.wrong_for-then-met_errors-e.ensures
 
 pub returns : goal.returns
 returns c =
-    judged_right (λ z. omega (arith, c.if-source-eq0.false)) (omega (arith, c.if-s-at.false)) c.meet_pieces-joint.ensures (omega (arith, c.if-joint-at.false))
+    judged_right (λ z. omega arith) (omega (arith, c.if-s-at.false)) c.meet_pieces-joint.ensures (omega (arith, c.if-joint-at.false))
     (not-false _ c.if-not-met_text.false) (omega (arith, c.if-met_text-t.false)) (not-false _ c.if-not-met_errors.false) (omega (arith, c.if-met_errors-e.false))
     c.requires.0
