@@ -1,4 +1,5 @@
 -- The whole answer, one law for each way that the check returns.
+use Rattle.std.specs.Prelude.{if◌then◌else◌}
 use Prim.Native.Nat.{ℕ, ◌%◌, ◌≤◌, ◌<◌}
 use mathlib.Core.Path.{◌≡◌, ◌∙◌, ap}
 use mathlib.Core.List.{List}
@@ -7,7 +8,6 @@ use mathlib.Core.Logic.{⊎_elim}
 use lib.Dec.{ltb, eqb}
 use lib.ListN.{length, take}
 use borrow.Author.Tests.{eq-eqb, ne_eqb, lt-ltb, le-ltb}
-use Rattle.lists.specs.Notation.{if◌then◌else◌}
 use Rattle.lists.specs.Bytes.{words}
 use Rattle.lists.proofs.Choice.{same?}
 use Rattle.standard.specs.declared.Context.{Context}

@@ -1,4 +1,5 @@
 -- Laws of the definition of the verdict: what it finds of a row, and of rows, is what the relations of RightRows say.
+use Rattle.std.specs.Prelude.{if◌then◌else◌}
 use Prim.Native.Nat.{ℕ, suc, ◌+◌, ◌*◌, ◌%◌, ◌≤◌, ◌<◌}
 use mathlib.Core.Path.{◌≡◌, refl, sym, ◌∙◌, ap, subst}
 use mathlib.Core.List.{List, [], ◌∷◌, ◌++◌}
@@ -9,7 +10,6 @@ use lib.Dec.{eqb}
 use lib.ListN.{length, drop, length-append}
 use lib.Seq.{take-append_seam, drop-append_seam, drop_at}
 use borrow.Author.Tests.{eqb-true, eqb-false, eq-eqb, ne_eqb, le-ltb, lt-ltb}
-use Rattle.lists.specs.Notation.{if◌then◌else◌}
 use Rattle.lists.proofs.Choice.{no_way, test?, below?, and_true, length_none}
 use Rattle.lists.proofs.Every.{All}
 use Rattle.standard.specs.Errors.{numbers}

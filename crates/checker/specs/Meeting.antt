@@ -1,6 +1,5 @@
 -- Meeting what a transcript should have next, and the numbers that are lent to the code.
-use Rattle.std.specs.Prelude.{ℕ, ◌+◌, ◌*◌, ◌≤◌, ◌<◌, ◌≡◌, List, true, ◌&&◌, ◌⊎◌, eqb, length, get_or, drop}
-use Rattle.lists.specs.Notation.{if◌then◌else◌}
+use Rattle.std.specs.Prelude.{ℕ, ◌+◌, ◌*◌, ◌≤◌, ◌<◌, ◌≡◌, List, true, ◌&&◌, ◌⊎◌, eqb, length, get_or, drop, if◌then◌else◌}
 use Rattle.lists.specs.Bytes.{words}
 use Rattle.standard.specs.declared.Context.{Context}
 use Rattle.standard.specs.Classes.{character_code}

@@ -1,6 +1,5 @@
 -- Document 01, 'Transcript': what a row must say, and the verdict on the rows.
-use Rattle.std.specs.Prelude.{ℕ, zero, suc, ◌+◌, ◌-◌, ◌*◌, ◌%◌, List, [], ◌∷◌, Bool, not, ◌||◌, ◌&&◌, ltb, eqb, length, drop}
-use Rattle.lists.specs.Notation.{if◌then◌else◌}
+use Rattle.std.specs.Prelude.{ℕ, zero, suc, ◌+◌, ◌-◌, ◌*◌, ◌%◌, List, [], ◌∷◌, Bool, not, ◌||◌, ◌&&◌, ltb, eqb, length, drop, if◌then◌else◌}
 use Rattle.lists.specs.Bytes.{words}
 use Rattle.standard.specs.declared.Context.{Context}
 use Rattle.standard.specs.Answers.{done, too_long, not_whole, longest_slice}

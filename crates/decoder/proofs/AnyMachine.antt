@@ -1,10 +1,10 @@
 -- The cutting law, over an arbitrary machine: what it gives of two lists, one after the other, is what it gives of the joined list.
+use Rattle.std.specs.Prelude.{if◌then◌else◌}
 use Prim.Native.Nat.{ℕ}
 use mathlib.Core.Path.{◌≡◌, refl, sym, ◌∙◌, ap}
 use mathlib.Core.List.{List, [], ◌∷◌, ◌++◌}
 use mathlib.Core.Bool.{Bool, true, false, not}
 use lib.Dec.{eqb}
-use Rattle.lists.specs.Notation.{if◌then◌else◌}
 use Rattle.standard.specs.Answers.{done}
 use Rattle.standard.specs.Reading.{Reading, reading, ◌⊕◌}
 use Rattle.standard.proofs.Joining.{⊕-assoc}

@@ -1,9 +1,9 @@
 -- The bytes of a stream, one by one, with room for all of them.
+use Rattle.std.specs.Prelude.{if◌then◌else◌}
 use Prim.Native.Nat.{ℕ}
 use mathlib.Core.List.{List, [], ◌∷◌, ◌++◌}
 use mathlib.Core.Bool.{not}
 use lib.Dec.{eqb}
-use Rattle.lists.specs.Notation.{if◌then◌else◌}
 use Rattle.standard.specs.declared.Context.{Context}
 use Rattle.standard.specs.Utf8.{read_char}
 use Rattle.standard.specs.Answers.{done}

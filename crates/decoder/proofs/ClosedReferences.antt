@@ -1,4 +1,5 @@
 -- A reference that ends in its own `;`: its bytes through the walk with nothing held are read as a piece.
+use Rattle.std.specs.Prelude.{if◌then◌else◌}
 use Prim.Native.Nat.{ℕ, suc, ◌+◌, ◌-◌, ◌*◌, ◌≤◌, ◌<◌}
 use Prim.Native.Char.{code}
 use mathlib.Core.Path.{◌≡◌, refl, sym, ◌∙◌, ap, ap₂, subst}
@@ -8,7 +9,6 @@ use native.Mathlib.Omega.{arith}
 use lib.Dec.{eqb}
 use lib.ListN.{length, get_or, length-append, drop_of_length-le}
 use borrow.Author.Tests.{le-ltb}
-use Rattle.lists.specs.Notation.{if◌then◌else◌}
 use Rattle.lists.proofs.Choice.{if_both}
 use Rattle.lists.proofs.Every.{All}
 use Rattle.standard.specs.declared.Context.{Context}

@@ -1,4 +1,5 @@
 -- What each state of the machine says is held: a character more holds it on or ends it, and an `&` settles it as the end does.
+use Rattle.std.specs.Prelude.{if◌then◌else◌}
 use Prim.Native.Nat.{ℕ, ◌-◌, ◌≤◌}
 use Prim.Native.Char.{code}
 use mathlib.Core.Path.{◌≡◌, refl, sym, ◌∙◌, ap, subst}
@@ -8,7 +9,7 @@ use native.Mathlib.Omega.{arith}
 use lib.Dec.{eqb}
 use lib.ListN.{length, drop}
 use borrow.Author.Tests.{eqb-true, le-ltb}
-use Rattle.lists.specs.Notation.{if◌then◌else◌, next, next_passes, every}
+use Rattle.lists.specs.Notation.{next, next_passes, every}
 use Rattle.lists.proofs.Choice.{no_way, if_both}
 use Rattle.standard.specs.declared.Context.{Context}
 use Rattle.standard.specs.declared.names.Found.{Found}

@@ -1,4 +1,5 @@
 -- What is read of an `&`, of what is held after it and of the bytes to come, where those end what is held and where they go on with it.
+use Rattle.std.specs.Prelude.{if◌then◌else◌}
 use Prim.Native.Nat.{ℕ, suc, ◌+◌, ◌-◌, ◌*◌, ◌≤◌}
 use Prim.Native.Char.{code}
 use mathlib.Core.Path.{◌≡◌, refl, sym, ◌∙◌, ap, ap₂}
@@ -8,7 +9,7 @@ use native.Mathlib.Omega.{arith}
 use lib.ListN.{length, get_or, drop, length-append, get_or-append}
 use lib.Seq.{get_or-append_seam}
 use borrow.Author.Tests.{ne_eqb, eq-eqb}
-use Rattle.lists.specs.Notation.{if◌then◌else◌, next, next_passes, front}
+use Rattle.lists.specs.Notation.{next, next_passes, front}
 use Rattle.lists.proofs.Every.{All}
 use Rattle.standard.specs.declared.Context.{Context}
 use Rattle.standard.specs.declared.names.Found.{Found}

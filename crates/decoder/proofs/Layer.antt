@@ -1,4 +1,5 @@
 -- The bytes of a stream one by one: a list after another, and the own bytes of a whole character.
+use Rattle.std.specs.Prelude.{if◌then◌else◌}
 use Prim.Native.Nat.{ℕ, suc, ◌≤◌, ◌<◌}
 use Prim.Native.Char.{code}
 use mathlib.Core.Path.{◌≡◌, refl, sym, ◌∙◌, ap, subst}
@@ -10,7 +11,7 @@ use lib.Dec.{ltb, eqb}
 use lib.ListN.{length, take, drop, length-append, take-append-drop}
 use lib.Seq.{take-length, take-append-le}
 use borrow.Author.Tests.{le-ltb, eq-eqb, ne_eqb}
-use Rattle.lists.specs.Notation.{if◌then◌else◌, next_passes}
+use Rattle.lists.specs.Notation.{next_passes}
 use Rattle.lists.proofs.Choice.{no_way, if_both, below?}
 use Rattle.lists.proofs.Every.{All}
 use Rattle.standard.specs.declared.Context.{Context}

@@ -1,4 +1,5 @@
 -- What each state of the machine says of the bytes still to come, and what holds of it.
+use Rattle.std.specs.Prelude.{if◌then◌else◌}
 use Prim.Native.Nat.{ℕ, suc, ◌+◌, ◌-◌, ◌*◌, ◌≤◌, ◌<◌}
 use Prim.Native.Char.{code}
 use mathlib.Core.Path.{◌≡◌, refl, sym, ◌∙◌, ap, ap₂}
@@ -8,7 +9,7 @@ use native.Mathlib.Omega.{arith}
 use lib.Dec.{eqb}
 use lib.ListN.{length, get_or, drop, get_or-append}
 use lib.Seq.{drop-append-le, drop-drop}
-use Rattle.lists.specs.Notation.{if◌then◌else◌, next, next_passes, front}
+use Rattle.lists.specs.Notation.{next, next_passes, front}
 use Rattle.lists.proofs.Choice.{facts, if_both}
 use Rattle.lists.proofs.Every.{All}
 use Rattle.standard.specs.declared.Context.{Context}

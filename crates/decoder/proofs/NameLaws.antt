@@ -1,4 +1,5 @@
 -- A named reference as the decoder's piece, and what its readers see.
+use Rattle.std.specs.Prelude.{if◌then◌else◌}
 use Prim.Native.Nat.{ℕ, ◌+◌, ◌-◌, ◌≤◌, ◌<◌}
 use Prim.Native.Char.{code}
 use mathlib.Core.Path.{◌≡◌, sym, ◌∙◌}
@@ -11,7 +12,7 @@ use lib.Dec.{ltb}
 use lib.ListN.{length, get_or, drop}
 use lib.Seq.{drop-cons}
 use borrow.Author.Tests.{ne_eqb}
-use Rattle.lists.specs.Notation.{if◌then◌else◌, next}
+use Rattle.lists.specs.Notation.{next}
 use Rattle.lists.proofs.Fronts.{FrontEmpty, Skipping, stopped_at, stopped_end, skipped}
 use Rattle.lists.proofs.Nexts.{next_at, next_none}
 use Rattle.standard.specs.declared.Context.{Context}

@@ -1,4 +1,5 @@
 -- Laws of a turn in a name: it goes on, it is closed by its `;`, or it is settled.
+use Rattle.std.specs.Prelude.{if◌then◌else◌}
 use Prim.Native.Nat.{ℕ, zero, suc, ◌+◌, ◌-◌, ◌≤◌, ◌<◌}
 use Prim.Native.Char.{code}
 use mathlib.Core.Path.{◌≡◌, refl, sym, ◌∙◌, ap, subst}
@@ -10,7 +11,7 @@ use lib.Dec.{eqb}
 use lib.ListN.{length, take, drop, set, length-append}
 use lib.Seq.{drop-length, take-nil, take_at}
 use borrow.Author.Tests.{ne_eqb, eq-eqb, eqb-true}
-use Rattle.lists.specs.Notation.{if◌then◌else◌, next_passes, front}
+use Rattle.lists.specs.Notation.{next_passes, front}
 use Rattle.standard.specs.declared.Context.{Context}
 use Rattle.standard.specs.declared.names.Found.{Found}
 use Rattle.standard.specs.Utf8.{octets, encode}

@@ -1,4 +1,5 @@
 -- Open records: a store that is what its state says, the states within the limits, and the record of such a state.
+use Rattle.std.specs.Prelude.{if◌then◌else◌}
 use Prim.Native.Nat.{ℕ, zero, suc, ◌+◌, ◌-◌, ◌≤◌, ◌<◌, min}
 use Prim.Native.Char.{code}
 use mathlib.Core.Path.{◌≡◌, refl, sym, ◌∙◌, ap, ap₂, subst}
@@ -10,7 +11,6 @@ use lib.Dec.{ltb, eqb}
 use lib.ListN.{length, get_or, take, drop, replicate, length-take, length-append}
 use lib.Seq.{length-take-le, take-suc, take_all, take-append_seam, get_or-take}
 use borrow.Author.Tests.{eq-eqb, eqb-true, ltb-true, lt-ltb, le-leb}
-use Rattle.lists.specs.Notation.{if◌then◌else◌}
 use Rattle.lists.proofs.Choice as choice
 use Rattle.lists.proofs.Choice.{no_way, or_true, length_none}
 use Rattle.lists.proofs.Nexts.{next_at}

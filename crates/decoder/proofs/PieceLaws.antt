@@ -1,10 +1,11 @@
 -- Laws of a piece: of one character, and at the front of some bytes by the first of them.
+use Rattle.std.specs.Prelude.{if◌then◌else◌}
 use Prim.Native.Nat.{ℕ, ◌<◌}
 use Prim.Native.Char.{code}
 use mathlib.Core.Path.{◌≡◌, sym, ◌∙◌}
 use mathlib.Core.List.{List, ◌++◌, append-nil}
 use lib.ListN.{length, get_or, drop}
-use Rattle.lists.specs.Notation.{if◌then◌else◌, next}
+use Rattle.lists.specs.Notation.{next}
 use Rattle.standard.specs.declared.Context.{Context}
 use Rattle.standard.specs.declared.characters.CharRead.TheVariants.{Char}
 use Rattle.standard.specs.Utf8.{octets, encode, read_char}

@@ -1,4 +1,5 @@
 -- Each step of the machine gives what its state says of the character, and its next state says the rest.
+use Rattle.std.specs.Prelude.{if◌then◌else◌}
 use Prim.Native.Nat.{ℕ, suc, ◌+◌, ◌≤◌}
 use Prim.Native.Char.{code}
 use mathlib.Core.Path.{◌≡◌, refl, sym, ◌∙◌, ap, subst}
@@ -8,7 +9,7 @@ use native.Mathlib.Omega.{arith}
 use lib.Dec.{eqb}
 use lib.ListN.{length, take, drop, length-append}
 use borrow.Author.Tests.{eqb-true}
-use Rattle.lists.specs.Notation.{if◌then◌else◌, next, next_passes}
+use Rattle.lists.specs.Notation.{next, next_passes}
 use Rattle.lists.proofs.Choice.{no_way}
 use Rattle.standard.specs.declared.Context.{Context}
 use Rattle.standard.specs.declared.names.Found.{Found}

@@ -1,4 +1,5 @@
 -- Laws of what is skimmed: runs of plain bytes and characters that stand for themselves, through the walk with nothing held.
+use Rattle.std.specs.Prelude.{if◌then◌else◌}
 use Prim.Native.Nat.{ℕ, zero, suc, ◌+◌, ◌-◌, ◌*◌, ◌≤◌, ◌<◌, min}
 use Prim.Native.Char.{code}
 use mathlib.Core.Path.{◌≡◌, refl, sym, ◌∙◌, ap, ap₂, subst}
@@ -10,7 +11,7 @@ use lib.Dec.{eqb, ltb, leb}
 use lib.ListN.{length, get_or, take, drop, length-take, length-drop, drop_of_length-le}
 use lib.Seq.{get_or-take, get_or-drop, take-suc, length-take-le, take_all, take-add, take-take, drop_at, drop-drop}
 use borrow.Author.Tests.{eqb-true, ne_eqb, ltb-true, leb-true}
-use Rattle.lists.specs.Notation.{if◌then◌else◌, front, every}
+use Rattle.lists.specs.Notation.{front, every}
 use Rattle.lists.specs.Rooms.{Put}
 use Rattle.lists.proofs.Choice.{no_way, and_true}
 use Rattle.lists.proofs.Every.{All}

@@ -1,4 +1,5 @@
 -- Calls one after the other: what an open stream's record stands for, and what a call makes of it.
+use Rattle.std.specs.Prelude.{if◌then◌else◌}
 use Prim.Native.Nat.{ℕ, ◌+◌, ◌-◌, ◌≤◌, ◌<◌}
 use mathlib.Core.Path.{◌≡◌, refl, sym, ◌∙◌, ap, ap₂, subst}
 use mathlib.Core.List.{List, [], ◌++◌}
@@ -7,7 +8,6 @@ use mathlib.Core.Logic.{◌≢◌, ◌⊎◌, inl, inr}
 use native.Mathlib.Omega.{arith}
 use lib.Dec.{eqb}
 use lib.ListN.{length, take, length-append, length-take, drop_of_length-le}
-use Rattle.lists.specs.Notation.{if◌then◌else◌}
 use Rattle.lists.proofs.Choice.{if_both, no_way}
 use Rattle.standard.specs.declared.Context.{Context}
 use Rattle.standard.specs.Answers.{

@@ -1,4 +1,5 @@
 -- Tidy names, and their lookup in what is held: it decides once no name goes on, or once a name is closed.
+use Rattle.std.specs.Prelude.{if◌then◌else◌}
 use Prim.Native.Nat.{ℕ, ◌<◌}
 use Prim.Native.Char.{code}
 use mathlib.Core.Path.{◌≡◌, refl, sym, ◌∙◌, ap}
@@ -8,7 +9,7 @@ use native.Mathlib.Omega.{arith}
 use lib.Dec.{ltb, eqb}
 use lib.ListN.{length}
 use borrow.Author.Tests.{eq-eqb, ne_eqb, eqb-true, eqb-false}
-use Rattle.lists.specs.Notation.{if◌then◌else◌, next_passes}
+use Rattle.lists.specs.Notation.{next_passes}
 use Rattle.lists.proofs.Choice.{no_way, and_true}
 use Rattle.lists.proofs.Every.{All, every-all, all_member}
 use Rattle.standard.specs.declared.names.Found.{Found}

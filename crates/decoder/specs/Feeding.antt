@@ -1,6 +1,5 @@
 -- What a walk of the code over bytes comes to, as the definition's walk does.
-use Rattle.std.specs.Prelude.{ℕ, suc, ◌+◌, ◌-◌, ◌*◌, ◌≤◌, ◌≡◌, List, [], ◌∷◌, ◌++◌, true, not, eqb, ltb, length, take, drop}
-use Rattle.lists.specs.Notation.{if◌then◌else◌}
+use Rattle.std.specs.Prelude.{ℕ, suc, ◌+◌, ◌-◌, ◌*◌, ◌≤◌, ◌≡◌, List, [], ◌∷◌, ◌++◌, true, not, eqb, ltb, length, take, drop, if◌then◌else◌}
 use Rattle.standard.specs.declared.Context.{Context}
 use Rattle.standard.specs.Utf8.{read_char}
 use Rattle.standard.specs.Answers.{done, too_long, stream_too_long, no_room, closed, longest_slice, longest_stream}

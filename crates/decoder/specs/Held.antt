@@ -1,7 +1,7 @@
 -- Document 01, 'The chunk decoder', 'Held': what is not written yet of the bytes that were taken.
-use Rattle.std.specs.Prelude.{ℕ, ◌-◌, List, [], ◌∷◌, Bool, true, false, not, ◌||◌, ◌&&◌, eqb, length, drop}
+use Rattle.std.specs.Prelude.{ℕ, ◌-◌, List, [], ◌∷◌, Bool, true, false, not, ◌||◌, ◌&&◌, eqb, length, drop, if◌then◌else◌}
 use Prim.Native.Char.{code}
-use Rattle.lists.specs.Notation.{if◌then◌else◌, next, every}
+use Rattle.lists.specs.Notation.{next, every}
 use Rattle.standard.specs.declared.Context.{Context}
 use Rattle.standard.specs.Numbers.{is_digit}
 use Rattle.standard.specs.Names.{Name, longest, begins}

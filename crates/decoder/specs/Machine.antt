@@ -1,7 +1,6 @@
 -- The machine: a covered source, character by character, with what is held as its state. The states are those of CharRefTokenizer.
-use Rattle.std.specs.Prelude.{ℕ, ◌+◌, ◌-◌, ◌*◌, min, List, [], ◌∷◌, ◌++◌, Bool, true, false, ◌||◌, eqb, drop}
+use Rattle.std.specs.Prelude.{ℕ, ◌+◌, ◌-◌, ◌*◌, min, List, [], ◌∷◌, ◌++◌, Bool, true, false, ◌||◌, eqb, drop, if◌then◌else◌}
 use Prim.Native.Char.{code}
-use Rattle.lists.specs.Notation.{if◌then◌else◌}
 use Rattle.standard.specs.declared.Context.{Context}
 use Rattle.standard.specs.declared.names.Found.{Found}
 use Rattle.standard.specs.Errors.{

@@ -1,7 +1,6 @@
 -- What a turn of the code stands for: what it releases and holds, as the machine's step does.
-use Rattle.std.specs.Prelude.{ℕ, ◌≤◌, ◌<◌, ◌≡◌, List, [], ◌∷◌, true, ◌⊎◌, ltb, length, take, drop}
+use Rattle.std.specs.Prelude.{ℕ, ◌≤◌, ◌<◌, ◌≡◌, List, [], ◌∷◌, true, ◌⊎◌, ltb, length, take, drop, if◌then◌else◌}
 use Prim.Native.Char.{code}
-use Rattle.lists.specs.Notation.{if◌then◌else◌}
 use Rattle.standard.specs.Classes.{alphanumeric}
 use Rattle.standard.specs.Reading.{Reading, reading_at, ◌⊕◌}
 use Rattle.standard.specs.NameList.{builtin}

@@ -1,7 +1,6 @@
 -- Document 01, 'Whole-slice calls', decode whole: the answer, and what is written.
-use Rattle.std.specs.Prelude.{ℕ, ◌+◌, ◌*◌, ◌/◌, ◌≤◌, ◌<◌, ◌≡◌, List, [], ◌||◌, ◌⊎◌, ltb, eqb, length}
+use Rattle.std.specs.Prelude.{ℕ, ◌+◌, ◌*◌, ◌/◌, ◌≤◌, ◌<◌, ◌≡◌, List, [], ◌||◌, ◌⊎◌, ltb, eqb, length, if◌then◌else◌}
 use Rattle.std.proofs.lemmas.List.Edits.{sets}
-use Rattle.lists.specs.Notation.{if◌then◌else◌}
 use Rattle.lists.specs.Bytes.{plainly, fours}
 use Rattle.standard.specs.declared.Context.{Context}
 use Rattle.standard.specs.Answers.{done, ill_formed, nul, too_long, context_end, room_asked, longest_slice}

@@ -1,7 +1,6 @@
 -- What the writers of the decoder come to: a reading in a text room and an error room, and the answer that tells of it.
-use Rattle.std.specs.Prelude.{ℕ, ◌+◌, ◌≤◌, ◌<◌, ◌≡◌, List, [], ◌||◌, eqb, length, drop}
+use Rattle.std.specs.Prelude.{ℕ, ◌+◌, ◌≤◌, ◌<◌, ◌≡◌, List, [], ◌||◌, eqb, length, drop, if◌then◌else◌}
 use Rattle.std.proofs.lemmas.List.Edits.{sets}
-use Rattle.lists.specs.Notation.{if◌then◌else◌}
 use Rattle.lists.specs.Bytes.{plainly}
 use Rattle.lists.specs.Rooms.{Put}
 use Rattle.standard.specs.declared.Context.{Context}

@@ -1,7 +1,7 @@
 // One piece: a newline, a character that stands for itself, or a reference. It is read from a slice and handed back as a value;
 // whoever has a room writes it.
-ghost use Rattle.std.specs.Prelude.{◌≡◌, ◌≤◌, ◌<◌, length, drop};
-ghost use Rattle.lists.specs.Notation.{if◌then◌else◌, next};
+ghost use Rattle.std.specs.Prelude.{◌≡◌, ◌≤◌, ◌<◌, length, drop, if◌then◌else◌};
+ghost use Rattle.lists.specs.Notation.{next};
 ghost use Rattle.standard.specs.Utf8.{read_char};
 ghost use Rattle.standard.specs.Names.{records, longest};
 ghost use Rattle.standard.specs.Pieces as standard;

@@ -1,6 +1,5 @@
 // The chunk decoder: its record, and its calls.
-ghost use Rattle.std.specs.Prelude.{◌≡◌, true, ◌≤◌, ◌-◌, ◌/◌, length, take};
-ghost use Rattle.lists.specs.Notation.{if◌then◌else◌};
+ghost use Rattle.std.specs.Prelude.{◌≡◌, true, ◌≤◌, ◌-◌, ◌/◌, length, take, if◌then◌else◌};
 ghost use Rattle.standard.specs.Names.{table_of};
 ghost use Rattle.standard.specs.NameList.{builtin};
 ghost use Rattle.decoder.specs.Stream as spec;

@@ -1,6 +1,5 @@
 // Writing into lent rooms: each function writes at a place and answers the place after; all else stays.
-ghost use Rattle.std.specs.Prelude.{◌≡◌, ◌∷◌, [], ◌++◌, ◌≤◌, ◌<◌, ◌+◌, length};
-ghost use Rattle.lists.specs.Notation.{if◌then◌else◌};
+ghost use Rattle.std.specs.Prelude.{◌≡◌, ◌∷◌, [], ◌++◌, ◌≤◌, ◌<◌, ◌+◌, length, if◌then◌else◌};
 ghost use Rattle.lists.specs.Rooms.{Put};
 ghost use Rattle.standard.specs.Utf8.{scalar, octets, encode};
 ghost use Rattle.standard.specs.Errors.{listed, placed, numbers};

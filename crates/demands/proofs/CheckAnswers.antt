@@ -1,5 +1,6 @@
 -- Demand 1 for transcripts: for each line of the table of answers, when `check` gives it, and what then holds.
 -- c is whatever meets the contract of `check` for a source, rows, text and errors.
+use Rattle.std.specs.Prelude.{if◌then◌else◌}
 use Prim.Native.Nat.{ℕ, ◌%◌, ◌≤◌, ◌<◌}
 use mathlib.Core.Path.{◌≡◌, refl, sym, ◌∙◌, ap, subst}
 use mathlib.Core.List.{List}
@@ -9,7 +10,6 @@ use native.Mathlib.Omega.{arith}
 use lib.Dec.{eqb}
 use lib.ListN.{length}
 use borrow.Author.Tests.{eqb-true, eq-eqb}
-use Rattle.lists.specs.Notation.{if◌then◌else◌}
 use Rattle.lists.specs.Bytes.{words}
 use Rattle.lists.proofs.Choice.{no_way, test?, same?, below?, and_true}
 use Rattle.standard.specs.declared.Context.{Context}

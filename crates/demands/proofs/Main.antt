@@ -2,6 +2,7 @@
 -- demands, then 'What counts as proved', then its other sentences. Each is proved by citing one law, which stands in the crate that it is about.
 -- That a function was called is said by the relations of Calls, which are made of the functions' own `ensures`. A table of answers is `Table`, and
 -- how numbers are lent is `Way` (lists/proofs/Tables and Ways); what a good transcript is, is in checker/proofs/RightRows; all else is in specs/.
+use Rattle.std.specs.Prelude.{if◌then◌else◌}
 use Prim.Native.Nat.{ℕ, suc, ◌+◌, ◌-◌, ◌*◌, ◌≤◌, ◌<◌}
 use Prim.Native.Char.{code}
 use mathlib.Core.Path.{◌≡◌, refl}
@@ -13,7 +14,6 @@ use lib.ListN.{length, get_or, take, drop}
 use lib.Seq.{sets}
 use borrow.Fn.Kinds.{ended_of}
 use Rattle.lists.specs.Bytes.{word32}
-use Rattle.lists.specs.Notation.{if◌then◌else◌}
 use Rattle.lists.proofs.Every.{All}
 use Rattle.lists.proofs.Tables.{◌when◌with◌, Kept, Table}
 use Rattle.lists.proofs.Ways.{Way, in_bytes, width, laid, said, room, Says, Small}

@@ -1,5 +1,6 @@
 -- Demand 1 for streams: for each line of the table of answers, when `feed` and `end` give it, and what then holds.
 -- r is any record; fed, text' and errors' are whatever meets the contract of the call for a chunk and two rooms.
+use Rattle.std.specs.Prelude.{MatchBool}
 use Prim.Native.Nat.{ℕ, zero, suc, ◌+◌, ◌-◌, ◌*◌, ◌≤◌, ◌<◌}
 use mathlib.Core.Path.{◌≡◌, refl, sym, ◌∙◌, ap, subst}
 use mathlib.Core.List.{List, [], ◌∷◌, ◌++◌}
@@ -9,7 +10,6 @@ use native.Mathlib.Omega.{arith}
 use lib.Dec.{eqb}
 use lib.ListN.{length, length-append}
 use lib.Seq.{sets}
-use Rattle.lists.specs.Notation.{if◌then◌else◌}
 use Rattle.lists.proofs.Choice.{no_way, test?, below?}
 use Rattle.lists.proofs.Tables.{◌when◌with◌, Kept, Table}
 use Rattle.standard.specs.declared.Context.{Context}
@@ -271,13 +271,13 @@ module _ (r : Stream) (text errors : List ℕ) (fed : Fed) (text' errors' : List
       -- What an answer is given for.
       abbrev When : ℕ → Type 0
       When n =
-          if eqb n closed then Closed
-          else if eqb n too_long then ChunkTooLong
-          else if eqb n stream_too_long then StreamTooLong
-          else if eqb n no_room then TooLittleRoom
-          else if eqb n room_used_up then LacksRoom
-          else if eqb n done then TakesAll
-          else Meets n
+          MatchBool (eqb n closed) Closed
+          (MatchBool (eqb n too_long) ChunkTooLong
+          (MatchBool (eqb n stream_too_long) StreamTooLong
+          (MatchBool (eqb n no_room) TooLittleRoom
+          (MatchBool (eqb n room_used_up) LacksRoom
+          (MatchBool (eqb n done) TakesAll
+          (Meets n))))))
 
       -- Some answer, for what it is given for.
       abbrev Cause : Type 0
@@ -420,10 +420,10 @@ module _ (r : Stream) (text errors : List ℕ) (fed : Fed) (text' errors' : List
     -- What an answer is given for.
     abbrev EndWhen : ℕ → Type 0
     EndWhen n =
-        if eqb n closed then Closed
-        else if eqb n no_room then EndNoRoom
-        else if eqb n ill_formed then EndInside
-        else EndWhole
+        MatchBool (eqb n closed) Closed
+        (MatchBool (eqb n no_room) EndNoRoom
+        (MatchBool (eqb n ill_formed) EndInside
+        EndWhole))
 
     -- What the call comes to in each case.
     abbrev end_comes : Outcome

@@ -1,5 +1,6 @@
 -- Demand 3: for a readable source of at most 65,536 bytes `check` accepts exactly the good transcripts; else it names the first wrong row with its
 -- reason, or the row count where only something remains. RightRows says what is good, right and wrong. c is whatever meets the contract of `check`.
+use Rattle.std.specs.Prelude.{if◌then◌else◌}
 use Prim.Native.Nat.{ℕ, ◌+◌, ◌*◌, ◌%◌, ◌≤◌, ◌<◌}
 use mathlib.Core.Path.{◌≡◌, refl, sym, ◌∙◌, ap, subst}
 use mathlib.Core.List.{List, [], ◌∷◌, append-nil}
@@ -9,7 +10,6 @@ use native.Mathlib.Omega.{arith}
 use lib.Dec.{eqb}
 use lib.ListN.{length, take, length-take}
 use lib.Seq.{sets}
-use Rattle.lists.specs.Notation.{if◌then◌else◌}
 use Rattle.lists.proofs.Choice.{no_way}
 use Rattle.lists.proofs.Every.{All}
 use Rattle.lists.proofs.Puts.{take-written}

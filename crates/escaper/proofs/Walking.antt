@@ -1,4 +1,5 @@
 -- The walk through a well-formed input: from `at` to `next` some text is written, by a run of quiet bytes or by what one other byte begins.
+use Rattle.std.specs.Prelude.{if◌then◌else◌}
 use Prim.Native.Nat.{ℕ, zero, suc, ◌+◌, ◌-◌, ◌≤◌, ◌<◌}
 use mathlib.Core.Path.{◌≡◌, refl, sym, ◌∙◌, ap, ap₂}
 use mathlib.Core.List.{List, [], ◌∷◌, ◌++◌}
@@ -7,7 +8,7 @@ use native.Mathlib.Omega.{arith}
 use lib.Dec.{eqb}
 use lib.ListN.{length, get_or, take, drop, length-drop}
 use lib.Seq.{take-nil, drop-drop, get_or-drop}
-use Rattle.lists.specs.Notation.{if◌then◌else◌, front, every}
+use Rattle.lists.specs.Notation.{front, every}
 use Rattle.lists.proofs.Choice.{if_both, and_true}
 use Rattle.lists.proofs.Fronts.{front-is-take, front_length}
 use Rattle.standard.specs.declared.characters.CharRead.{CharRead}

@@ -1,8 +1,7 @@
 -- Document 01, 'Escape' (`write_escaped` of serialize/mod.rs), by WHATWG HTML, 13.3, 'escaping a string'.
-use Rattle.std.specs.Prelude.{ℕ, zero, suc, ◌-◌, ◌≡◌, List, [], ◌∷◌, ◌++◌, Bool, true, false, ◌||◌, ◌&&◌, ltb, eqb, length, take}
+use Rattle.std.specs.Prelude.{ℕ, zero, suc, ◌-◌, ◌≡◌, List, [], ◌∷◌, ◌++◌, Bool, true, false, ◌||◌, ◌&&◌, ltb, eqb, length, take, if◌then◌else◌}
 use Prim.Native.Char.{code}
 use Rattle.std.proofs.lemmas.List.Edits.{sets}
-use Rattle.lists.specs.Notation.{if◌then◌else◌}
 use Rattle.standard.specs.declared.characters.CharRead.{CharRead}
 use Rattle.standard.specs.declared.characters.CharRead.TheVariants.{Char, Incomplete, Illformed, End}
 use Rattle.standard.specs.Utf8.{read_char, bytes}

@@ -1,7 +1,6 @@
 -- How the code walks through an input, for its own contracts: what the bytes begin that are not quiet.
-use Rattle.std.specs.Prelude.{ℕ, List, eqb}
+use Rattle.std.specs.Prelude.{ℕ, List, eqb, if◌then◌else◌}
 use Prim.Native.Char.{code}
-use Rattle.lists.specs.Notation.{if◌then◌else◌}
 use Rattle.standard.specs.Utf8.{bytes}
 use Rattle.escaper.specs.declared.Mode.{Mode}
 use Rattle.escaper.specs.declared.specials.Special.{Special}

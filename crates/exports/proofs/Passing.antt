@@ -1,11 +1,11 @@
 -- What whole decoding answers and writes, handed on as it is, passes the check.
+use Rattle.std.specs.Prelude.{if◌then◌else◌}
 use Prim.Native.Nat.{ℕ, ◌*◌, ◌<◌}
 use mathlib.Core.Path.{◌≡◌}
 use mathlib.Core.List.{List, [], ◌∷◌}
 use mathlib.Core.Logic.{◌⊎◌}
 use lib.Dec.{eqb}
 use lib.ListN.{length, take}
-use Rattle.lists.specs.Notation.{if◌then◌else◌}
 use Rattle.lists.proofs.Ways.{Way, width, Says}
 use Rattle.standard.specs.declared.Context.{Context}
 use Rattle.standard.specs.Answers.{done, context_end}

@@ -1,4 +1,5 @@
 -- Laws of a choice by a test, and of tests on numbers and lengths.
+use Rattle.std.specs.Prelude.{if◌then◌else◌}
 use Prim.Native.Nat.{ℕ, ◌≤◌, ◌<◌}
 use mathlib.Core.Path.{◌≡◌, refl, subst}
 use mathlib.Core.List.{List, []}
@@ -8,13 +9,13 @@ use native.Mathlib.Omega.{arith}
 use lib.Dec.{T, ltb, leb, eqb}
 use lib.ListN.{length, drop_of_length-le}
 use borrow.Author.Tests.{le-leb, lt-leb, ltb-true, ltb-false, leb-true, leb-false, eqb-true, eqb-false}
-use Rattle.lists.specs.Notation.{if◌then◌else◌, between}
+use Rattle.lists.specs.Notation.{between}
 
 -- What omega reads tests of numbers by: ltb is a leb.
 pub ruleset facts = (arith, leb-true, leb-false, eqb-true, eqb-false)
 
 -- What holds of each arm where the test chooses it holds of the choice.
-pub if_both {κ ℓ} : {A : Type κ} (P : A → Type ℓ) (t : Bool) (a b : A) → (t ≡ true → P a) → (t ≡ false → P b) → P (if t then a else b)
+pub if_both {ℓ} : {A : Type 0} (P : A → Type ℓ) (t : Bool) (a b : A) → (t ≡ true → P a) → (t ≡ false → P b) → P (if t then a else b)
 if_both P true a b f g = f refl
 if_both P false a b f g = g refl
 

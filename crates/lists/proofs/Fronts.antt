@@ -1,4 +1,5 @@
 -- Laws of the longest front of a list whose every element passes a test p: its elements, one by one or in blocks, and skipping it.
+use Rattle.std.specs.Prelude.{if◌then◌else◌}
 use Prim.Native.Nat.{ℕ, zero, suc, ◌+◌, ◌≤◌, ◌<◌}
 use mathlib.Core.Path.{◌≡◌, refl, sym, ◌∙◌, ap}
 use mathlib.Core.List.{List, [], ◌∷◌, ◌++◌}
@@ -7,7 +8,7 @@ use native.Mathlib.Omega.{arith}
 use native.Mathlib.Numerals.{add-one}
 use lib.ListN.{length, get_or, take, drop, length-append, length-take, length-drop, drop_of_length-le}
 use lib.Seq.{drop-cons, drop-drop}
-use Rattle.lists.specs.Notation.{if◌then◌else◌, front, every}
+use Rattle.lists.specs.Notation.{front, every}
 use Rattle.lists.proofs.Choice.{if_both, and_true}
 
 -- Where no element is left there is none at the front.

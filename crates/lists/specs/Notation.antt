@@ -1,11 +1,5 @@
 -- The notation of the definitions: this project's own, with no source.
-use Rattle.std.specs.Prelude.{ℕ, List, [], ◌∷◌, Bool, true, false, ◌&&◌, leb, eqb}
-
-infix 20 if◌then◌else◌
--- The first value where the test holds, the second where it doesn't.
-abbrev pub if◌then◌else◌ {ℓ} : {A : Type ℓ} → Bool → A → A → A
-if true then a else b = a
-if false then a else b = b
+use Rattle.std.specs.Prelude.{ℕ, List, [], ◌∷◌, Bool, true, false, ◌&&◌, leb, eqb, if◌then◌else◌}
 
 -- From a to b, both included.
 abbrev pub between : ℕ → ℕ → ℕ → Bool

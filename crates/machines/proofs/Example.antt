@@ -1,5 +1,6 @@
 -- An example, so that the laws are seen to ask for nothing odd: text with tags as tokens. A tag ends its call with 21 and leaves the stream open,
 -- one that is open at the end is answered first, with 22, and a name that is too long is answered at its tag, with 16.
+use Rattle.std.specs.Prelude.{if◌then◌else◌}
 use Prim.Native.Nat.{ℕ, ◌≤◌}
 use Prim.Native.Char.{code}
 use mathlib.Core.Path.{◌≡◌, refl, sym, ap, subst}
@@ -9,7 +10,6 @@ use native.Mathlib.Omega.{arith}
 use lib.Dec.{leb, eqb}
 use lib.ListN.{length, length-append}
 use borrow.Author.Tests.{leb-true, le-leb}
-use Rattle.lists.specs.Notation.{if◌then◌else◌}
 use Rattle.lists.proofs.Choice.{if_both, no_way, and_true}
 use Rattle.standard.specs.Utf8.{read_char, after_lead, tails, bytes, encode, octets}
 use Rattle.standard.proofs.Utf8.{read_length}

@@ -1,4 +1,5 @@
 -- There is a run over each source within the limit: byte by byte, with the least rooms.
+use Rattle.std.specs.Prelude.{if◌then◌else◌}
 use Prim.Native.Nat.{ℕ, suc, ◌+◌, ◌≤◌}
 use mathlib.Core.Path.{◌≡◌, refl, sym, ◌∙◌, ap, subst}
 use mathlib.Core.List.{List, [], ◌∷◌}
@@ -7,7 +8,6 @@ use native.Mathlib.Omega.{arith}
 use lib.Dec.{ltb, eqb}
 use lib.ListN.{length, drop}
 use borrow.Author.Tests.{le-ltb}
-use Rattle.lists.specs.Notation.{if◌then◌else◌}
 use Rattle.standard.specs.Answers.{done, ill_formed, text_room, errors_room}
 use Rattle.machines.specs.Machine.{Turn, stops, takes, Machine}
 use Rattle.machines.specs.Stream.{At, at_by, place_of, still, shut, is_still, Outcome, outcome, Comes, byte, onward, walk_on, walk, feed, end_on, end}

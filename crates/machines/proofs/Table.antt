@@ -1,4 +1,5 @@
 -- The table of answers, over any machine: what each answer to a chunk is given for, and that it is given for nothing else.
+use Rattle.std.specs.Prelude.{MatchBool}
 use Prim.Native.Nat.{ℕ, suc, ◌+◌, ◌-◌, ◌≤◌, ◌<◌}
 use mathlib.Core.Path.{◌≡◌, refl, sym, ◌∙◌, ap, subst, subst₂}
 use mathlib.Core.List.{List, [], ◌∷◌, ◌++◌}
@@ -8,7 +9,6 @@ use native.Mathlib.Omega.{arith}
 use lib.Dec.{ltb, eqb}
 use lib.ListN.{length}
 use borrow.Author.Tests.{lt-ltb, le-ltb, ltb-true, ltb-false}
-use Rattle.lists.specs.Notation.{if◌then◌else◌}
 use Rattle.lists.proofs.Choice.{if_both, no_way, or_none}
 use Rattle.standard.specs.Answers.{done, too_long, stream_too_long, no_room, room_used_up, closed, longest_slice}
 use Rattle.machines.specs.Machine.{stops, takes, Machine}
@@ -223,10 +223,10 @@ module _ (M : Machine) {Sound : At M.State → Type 0} (laws : Joins M) (sizes :
   -- Where a reason is picked by the answer.
   abbrev Reason : ℕ → Type 0
   Reason n =
-      if eqb n too_long then longest_slice < length chunk
-      else if eqb n stream_too_long then (length chunk ≤ longest_slice) × (limit < at.taken + length chunk)
-      else if eqb n no_room then (length chunk ≤ longest_slice) × (at.taken + length chunk ≤ limit) × (lacks_room text numbers ≡ true)
-      else Walked
+      MatchBool (eqb n too_long) (longest_slice < length chunk)
+      (MatchBool (eqb n stream_too_long) ((length chunk ≤ longest_slice) × (limit < at.taken + length chunk))
+      (MatchBool (eqb n no_room) ((length chunk ≤ longest_slice) × (at.taken + length chunk ≤ limit) × (lacks_room text numbers ≡ true))
+      Walked))
 
   reason : {o : Comes M} → Why M limit at chunk text numbers o → Reason o.answer
   reason (long h) = h

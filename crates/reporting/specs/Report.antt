@@ -1,8 +1,7 @@
 -- Document 01, 'The bench program': what is written for what stands on standard input.
-use Rattle.std.specs.Prelude.{ℕ, zero, suc, ◌+◌, ◌*◌, ◌/◌, ◌%◌, ◌≡◌, List, [], ◌∷◌, ◌++◌, Bool, ◌&&◌, ltb, leb, eqb, length, drop}
+use Rattle.std.specs.Prelude.{ℕ, zero, suc, ◌+◌, ◌*◌, ◌/◌, ◌%◌, ◌≡◌, List, [], ◌∷◌, ◌++◌, Bool, ◌&&◌, ltb, leb, eqb, length, drop, if◌then◌else◌}
 use Prim.Native.Char.{code}
 use Rattle.std.proofs.lemmas.List.Edits.{sets}
-use Rattle.lists.specs.Notation.{if◌then◌else◌}
 use Rattle.lists.specs.Rooms.{Put}
 use Rattle.standard.specs.declared.Context.{Context}
 use Rattle.standard.specs.declared.Context.TheVariants.{Text, Attribute}

@@ -1,4 +1,5 @@
 -- The built-in names, tested by computing: their number, their order, their shape, and the Latin-1 values.
+use Rattle.std.specs.Prelude.{if◌then◌else◌}
 use Prim.Native.Nat.{ℕ, zero, suc, ◌+◌}
 use Prim.Native.Char.{code}
 use mathlib.Core.Path.{◌≡◌, refl}
@@ -6,7 +7,7 @@ use mathlib.Core.List.{List, [], ◌∷◌, ◌++◌}
 use mathlib.Core.Bool.{Bool, true, false, not, ◌||◌, ◌&&◌}
 use lib.Dec.{ltb, eqb}
 use lib.ListN.{length}
-use Rattle.lists.specs.Notation.{if◌then◌else◌, every}
+use Rattle.lists.specs.Notation.{every}
 use Rattle.standard.specs.Classes.{alphanumeric}
 use Rattle.standard.specs.Utf8.{bytes}
 use Rattle.standard.specs.Names.{Name, stands, records, table_of}

@@ -1,4 +1,5 @@
 -- The digits at the front of some bytes: how many there are, and what they make of the bytes after `&#` or `&#x`.
+use Rattle.std.specs.Prelude.{if◌then◌else◌}
 use Prim.Native.Nat.{ℕ, suc, ◌+◌, ◌*◌, ◌≤◌, ◌<◌, min}
 use Prim.Native.Char.{code}
 use mathlib.Core.Path.{◌≡◌, refl, sym, ap}
@@ -7,7 +8,7 @@ use native.Mathlib.Omega.{arith}
 use lib.Dec.{eqb}
 use lib.ListN.{length, get_or, drop}
 use borrow.Author.Tests.{lt-ltb, le-ltb, ne_eqb}
-use Rattle.lists.specs.Notation.{if◌then◌else◌, next, front}
+use Rattle.lists.specs.Notation.{next, front}
 use Rattle.lists.proofs.Fronts.{front-none, front_stops, front_goes_on}
 use Rattle.standard.specs.Errors.{absence_of_digits_in_numeric_character_reference}
 use Rattle.standard.specs.Numbers.{digit_of, is_digit, number_from, number, meaning_of}

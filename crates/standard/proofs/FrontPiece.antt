@@ -1,4 +1,5 @@
 -- The piece at the front of some bytes: one law for each way that it is settled.
+use Rattle.std.specs.Prelude.{if◌then◌else◌}
 use Prim.Native.Nat.{ℕ, suc, ◌+◌, ◌-◌, ◌≤◌, ◌<◌, min}
 use Prim.Native.Char.{code}
 use mathlib.Core.Path.{◌≡◌, refl, ◌∙◌}
@@ -10,7 +11,7 @@ use lib.Dec.{ltb, eqb}
 use lib.ListN.{length, get_or, drop, length-drop}
 use lib.Seq.{drop-drop}
 use borrow.Author.Tests.{eq-eqb, ne_eqb}
-use Rattle.lists.specs.Notation.{if◌then◌else◌, next, front}
+use Rattle.lists.specs.Notation.{next, front}
 use Rattle.lists.proofs.Fronts.{front_length}
 use Rattle.lists.proofs.Nexts.{next-front}
 use Rattle.standard.specs.declared.Context.{Context}

@@ -1,4 +1,5 @@
 -- What a number means, case by case: past the last code point, a surrogate, and a scalar value.
+use Rattle.std.specs.Prelude.{if◌then◌else◌}
 use Prim.Native.Nat.{ℕ, ◌/◌, ◌≤◌, ◌<◌}
 use mathlib.Core.Path.{◌≡◌}
 use mathlib.Core.Bool.{not, ◌||◌, ◌&&◌}
@@ -6,7 +7,6 @@ use mathlib.Core.Logic.{⊎_map}
 use native.Mathlib.Omega.{arith}
 use lib.Dec.{eqb}
 use borrow.Author.Tests.{lt-ltb, le-ltb, ne_eqb}
-use Rattle.lists.specs.Notation.{if◌then◌else◌}
 use Rattle.lists.proofs.Choice.{below?, inside-between, outside_between}
 use Rattle.standard.specs.Classes.{noncharacter, whitespace, control}
 use Rattle.standard.specs.Numbers.{replacements, replaced_by, means, meaning_of}

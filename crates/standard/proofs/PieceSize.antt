@@ -1,4 +1,5 @@
 -- A piece: it has at least one of the bytes that are there, no more errors than bytes, and with narrow names no longer a text.
+use Rattle.std.specs.Prelude.{if◌then◌else◌}
 use Prim.Native.Nat.{ℕ, suc, ◌+◌, ◌-◌, ◌≤◌, ◌<◌}
 use Prim.Native.Char.{code}
 use mathlib.Core.Path.{◌≡◌, refl}
@@ -8,7 +9,7 @@ use native.Mathlib.Omega.{arith}
 use lib.Dec.{ltb, eqb}
 use lib.ListN.{length, get_or, drop, length-take, length-drop}
 use borrow.Author.Tests.{ltb-true}
-use Rattle.lists.specs.Notation.{if◌then◌else◌, between, next, next_passes, front}
+use Rattle.lists.specs.Notation.{between, next, next_passes, front}
 use Rattle.lists.proofs.Choice.{if_both}
 use Rattle.lists.proofs.Every.{All, every-all}
 use Rattle.lists.proofs.Fronts.{front_induction, front_length}

@@ -1,4 +1,5 @@
 -- What skips some bytes before it begins is what begins after them: after these laws nobody speaks of skip.
+use Rattle.std.specs.Prelude.{if◌then◌else◌}
 use Prim.Native.Nat.{ℕ, zero, suc, ◌+◌, ◌-◌, ◌≤◌}
 use mathlib.Core.Path.{◌≡◌, refl, ◌∙◌, ap}
 use mathlib.Core.List.{List, [], ◌∷◌}
@@ -7,7 +8,6 @@ use native.Mathlib.Numerals.{sub-one}
 use lib.Dec.{leb}
 use lib.ListN.{length, take, drop, length-drop}
 use lib.Seq.{take_all}
-use Rattle.lists.specs.Notation.{if◌then◌else◌}
 use Rattle.standard.specs.declared.Context.{Context}
 use Rattle.standard.specs.Names.{Name, record_at, records_from}
 use Rattle.standard.specs.Reading.{stop_from, pieces_from}

@@ -1,4 +1,5 @@
 -- Laws of the character at the front of some bytes, as specs/Utf8.antt reads it.
+use Rattle.std.specs.Prelude.{if◌then◌else◌}
 use Prim.Native.Nat.{ℕ, zero, suc, ◌+◌, ◌-◌, ◌*◌, ◌/◌, ◌%◌, ◌≤◌, ◌<◌}
 use mathlib.Core.Path.{◌≡◌, refl, sym, ◌∙◌, ap, subst}
 use mathlib.Core.List.{List, [], ◌∷◌, ◌++◌}
@@ -9,7 +10,7 @@ use native.Mathlib.Numerals.{add-one, sub-one}
 use lib.Dec.{ltb, eqb}
 use lib.ListN.{length, get_or, take, drop, drop_of_length-le}
 use lib.Seq.{drop-cons}
-use Rattle.lists.specs.Notation.{if◌then◌else◌, between}
+use Rattle.lists.specs.Notation.{between}
 use Rattle.lists.proofs.Choice.{facts, if_both, inside-between, outside_between}
 use Rattle.standard.specs.declared.characters.CharRead.{CharRead}
 use Rattle.standard.specs.declared.characters.CharRead.TheVariants.{Char, Incomplete, Illformed, End}

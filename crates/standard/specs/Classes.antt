@@ -1,7 +1,7 @@
 -- The classes of characters: the Infra standard, 'Code points', and WHATWG HTML, 13.2.3.5, 'Preprocessing the input stream'.
-use Rattle.std.specs.Prelude.{ℕ, ◌%◌, Bool, not, ◌||◌, ◌&&◌, eqb}
+use Rattle.std.specs.Prelude.{ℕ, ◌%◌, Bool, not, ◌||◌, ◌&&◌, eqb, if◌then◌else◌}
 use Prim.Native.Char.{code}
-use Rattle.lists.specs.Notation.{if◌then◌else◌, between}
+use Rattle.lists.specs.Notation.{between}
 use Rattle.standard.specs.Errors.{no_error, control_character_in_input_stream, noncharacter_in_input_stream}
 
 -- A noncharacter: FDD0 to FDEF, and the last two code points of each plane.

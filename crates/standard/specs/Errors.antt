@@ -1,6 +1,5 @@
 -- The parse errors of WHATWG HTML, 13.2.2, by their names there, with the codes and the place that document 01 gives them.
-use Rattle.std.specs.Prelude.{ℕ, List, [], ◌∷◌, eqb}
-use Rattle.lists.specs.Notation.{if◌then◌else◌}
+use Rattle.std.specs.Prelude.{ℕ, List, [], ◌∷◌, eqb, if◌then◌else◌}
 
 -- The codes; 0 stands for no error, and the others for the errors of their names.
 abbrev pub no_error : ℕ

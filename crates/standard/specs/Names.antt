@@ -1,6 +1,5 @@
 -- WHATWG HTML, 13.2.5.73: names, the longest one that stands at the front of some bytes, and tables of names as bytes.
-use Rattle.std.specs.Prelude.{ℕ, zero, suc, ◌+◌, List, [], ◌∷◌, ◌++◌, Bool, true, false, ◌||◌, ◌&&◌, ltb, leb, eqb, length, take, drop}
-use Rattle.lists.specs.Notation.{if◌then◌else◌}
+use Rattle.std.specs.Prelude.{ℕ, zero, suc, ◌+◌, List, [], ◌∷◌, ◌++◌, Bool, true, false, ◌||◌, ◌&&◌, ltb, leb, eqb, length, take, drop, if◌then◌else◌}
 use Rattle.lists.specs.Bytes.{word32, four_bytes}
 use Rattle.standard.specs.declared.names.CharRef.{CharRef}
 use Rattle.standard.specs.declared.names.Found.{Found}

@@ -1,7 +1,7 @@
 -- WHATWG HTML, 13.2.5.75 to 13.2.5.80: the digits of a numeric character reference, their exact number, and what it means.
-use Rattle.std.specs.Prelude.{ℕ, ◌+◌, ◌-◌, ◌*◌, List, [], ◌∷◌, Bool, not, ◌||◌, ◌&&◌, ltb, eqb}
+use Rattle.std.specs.Prelude.{ℕ, ◌+◌, ◌-◌, ◌*◌, List, [], ◌∷◌, Bool, not, ◌||◌, ◌&&◌, ltb, eqb, if◌then◌else◌}
 use Prim.Native.Char.{code}
-use Rattle.lists.specs.Notation.{if◌then◌else◌, between}
+use Rattle.lists.specs.Notation.{between}
 use Rattle.standard.specs.Classes.{noncharacter, whitespace, control}
 use Rattle.standard.specs.Errors.{
   no_error,

@@ -1,7 +1,7 @@
 -- Document 01, 'Pieces', by WHATWG HTML, 13.2.3.5 and 13.2.5.72 to 13.2.5.80: the piece at the front of a covered source.
-use Rattle.std.specs.Prelude.{ℕ, suc, ◌+◌, ◌-◌, List, [], ◌∷◌, ◌++◌, Bool, ◌||◌, ◌&&◌, eqb, length, get_or, take, drop}
+use Rattle.std.specs.Prelude.{ℕ, suc, ◌+◌, ◌-◌, List, [], ◌∷◌, ◌++◌, Bool, ◌||◌, ◌&&◌, eqb, length, get_or, take, drop, if◌then◌else◌}
 use Prim.Native.Char.{code}
-use Rattle.lists.specs.Notation.{if◌then◌else◌, next, next_passes, front}
+use Rattle.lists.specs.Notation.{next, next_passes, front}
 use Rattle.standard.specs.declared.Context.{Context}
 use Rattle.standard.specs.declared.characters.CharRead.{CharRead}
 use Rattle.standard.specs.declared.characters.CharRead.TheVariants.{Char, Incomplete, Illformed, End}

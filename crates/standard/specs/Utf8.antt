@@ -1,8 +1,8 @@
 -- RFC 3629, section 4: the characters of UTF-8. A character is read from the front of some bytes, and written as bytes.
-use Rattle.std.specs.Prelude.{ℕ, zero, suc, ◌+◌, ◌-◌, ◌*◌, ◌/◌, ◌%◌, List, [], ◌∷◌, ◌++◌, Bool, ◌||◌, ltb, eqb}
+use Rattle.std.specs.Prelude.{ℕ, zero, suc, ◌+◌, ◌-◌, ◌*◌, ◌/◌, ◌%◌, List, [], ◌∷◌, ◌++◌, Bool, ◌||◌, ltb, eqb, if◌then◌else◌}
 use Prim.Native.Char.{code}
 use Prim.Native.String.{String}
-use Rattle.lists.specs.Notation.{if◌then◌else◌, between}
+use Rattle.lists.specs.Notation.{between}
 use Rattle.standard.specs.declared.characters.CharRead.{CharRead}
 use Rattle.standard.specs.declared.characters.CharRead.TheVariants.{Char, Incomplete, Illformed, End}
 use Rattle.standard.specs.declared.characters.Lead.{Lead}

@@ -1,9 +1,9 @@
 -- character_code is what characterCode says: each test of the code is the next test of the definition.
+use Rattle.std.specs.Prelude.{if◌then◌else◌}
 use mathlib.Core.Path.{◌≡◌, sym, ◌∙◌}
 use mathlib.Core.Bool.{not, ◌||◌, ◌&&◌}
 use lib.Dec.{eqb}
 use borrow.Author.Tests.{eq-eqb, ne_eqb}
-use Rattle.lists.specs.Notation.{if◌then◌else◌}
 use Rattle.standard.specs.Classes.{whitespace, control, character_code}
 use Rattle.decoder.proofs.classes.character_code.Goals as goal
 

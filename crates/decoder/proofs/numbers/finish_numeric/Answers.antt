@@ -1,8 +1,8 @@
 -- finish_numeric is what meaningOf says: each test of the code is the next test of the definition.
+use Rattle.std.specs.Prelude.{if◌then◌else◌}
 use mathlib.Core.Path.{◌≡◌, refl, sym, ◌∙◌}
 use mathlib.Core.Bool.{not, ◌&&◌}
 use borrow.Author.Tests.{ne_eqb}
-use Rattle.lists.specs.Notation.{if◌then◌else◌}
 use Rattle.standard.specs.Classes.{whitespace, control}
 use Rattle.standard.specs.Numbers.{replacements, replaced_by, means, meaning_of}
 use Rattle.standard.proofs.Meanings.{meaning_outside, meaning_surrogate, meaning_scalar}
