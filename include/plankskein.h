@@ -1,4 +1,4 @@
-/* Plankskein for C: decode, escape and check. Link with libexports.a, which `rt staticlib exports` writes to target/staticlib (x86-64 Linux).
+/* Plankskein for C: decode, escape and check. Link with libexports.a, which `./archive` writes to target/staticlib (x86-64 Linux).
 
    Bytes are passed as a pointer and a length. Each function answers for any bytes, any numbers and any lengths; nothing is asked of the caller but
    that each pointer is valid for its length, and that no buffer that is written (text, errors, out, report) overlaps another one of the same call.

@@ -7,7 +7,6 @@
 So two sides agree on a batch exactly when these bytes are equal.
 """
 import os
-import platform
 import random
 import shutil
 import struct
@@ -133,27 +132,15 @@ def html5lib():
 
 # ----------------------------------------------------------------------------------------------------------------------------- our sides
 
-def kit_tools():
-    """The folder of the kit's tools for this machine."""
-    if not shutil.which("rt"):
-        stop("rt is missing: put the Rattle kit's bin folder on the path")
-    guide = Path(subprocess.run(["rt", "doc"], stdout=subprocess.PIPE, text=True, check=True).stdout.strip())
-    return guide.parent.parent / "on" / platform.machine() / "toolchain"
-
-
-def command(program):
-    """What starts a built program: the kit's loader, under its emulator where it has one."""
-    tools = kit_tools()
-    emulator = tools / "bin" / "qemu-x86_64"
-    return [*([emulator] if emulator.exists() else []), tools / "lib" / "ld-linux-x86-64.so.2", "--library-path", tools / "lib", program]
-
-
 def built(name):
     """A program of this repository, proved and built anew where it has changed."""
-    said = subprocess.run(["rt", "check", name], cwd=ROOT, capture_output=True, text=True)
+    if not shutil.which("rt"):
+        stop("rt is missing: put the Rattle kit's bin folder on the path")
+    crate = ROOT / "crates" / name
+    said = subprocess.run(["rt", "run"], cwd=crate, stdin=subprocess.DEVNULL, capture_output=True, text=True)
     if said.returncode:
-        stop(f"rt check {name} failed:\n{said.stdout[-2000:]}")
-    return ROOT / "target" / "bin" / name
+        stop(f"rt run in crates/{name} failed:\n{said.stdout[-2000:]}{said.stderr[-2000:]}")
+    return crate / "out" / name
 
 
 def exports():
@@ -182,7 +169,7 @@ class Lines:
     letter = None
 
     def __init__(self):
-        self.command = command(built("replay"))
+        self.command = [built("replay")]
 
     def run(self, records):
         """The lines for records."""

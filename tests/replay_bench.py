@@ -16,7 +16,7 @@ where the parts stand one after the other; tests/replay does all of it.
     python3 tests/replay_bench.py COMMAND..
 
 runs a built bench program on every input instead, once with the whole input at hand and, for some, byte by byte through a pipe, and
-compares what it writes. The command is the program, with what starts it before it where the machine needs that: an emulator, a loader.
+compares what it writes. The command is the program, with what starts it before it where the machine needs that: a loader.
 """
 
 import subprocess

@@ -17,7 +17,24 @@ use Rattle.standard.specs.Names.{stands}
 use Rattle.standard.specs.Pieces.{Piece}
 use Rattle.standard.specs.Reading.{Reading, joined}
 use Rattle.standard.proofs.Joining.{numbers-length}
-use Rattle.checker.specs.Transcript.{Row, rows_of, Left, left, total, reached, wrong, after, spent, Verdict, verdict, judge, right, text_differs, errors_differ, remains}
+use Rattle.checker.specs.Transcript.{
+  Row,
+  rows_of,
+  Left,
+  left,
+  total,
+  reached,
+  wrong,
+  after,
+  spent,
+  Verdict,
+  verdict,
+  judge,
+  right,
+  text_differs,
+  errors_differ,
+  remains,
+}
 use Rattle.checker.proofs.Meetings.{stands-front, front-stands}
 use Rattle.checker.proofs.RightRows.{
   PieceEnd,

@@ -17,7 +17,19 @@ use Rattle.standard.specs.Errors.{no_error, error, placed, absence_of_digits_in_
 use Rattle.standard.specs.Classes.{alphanumeric}
 use Rattle.standard.specs.Numbers.{digit_of, is_digit, number_from, Meaning}
 use Rattle.standard.specs.Names.{Name, longest, begins}
-use Rattle.standard.specs.Pieces.{piece, ampersand, numbered, digits_then, digits_at, numeric, char_ref_text, unknown_name, named_by, reference, piece_at}
+use Rattle.standard.specs.Pieces.{
+  piece,
+  ampersand,
+  numbered,
+  digits_then,
+  digits_at,
+  numeric,
+  char_ref_text,
+  unknown_name,
+  named_by,
+  reference,
+  piece_at,
+}
 use Rattle.standard.specs.Reading.{Reading, reading, reading_at, ◌⊕◌}
 use Rattle.standard.proofs.Ascii.{Plain}
 use Rattle.standard.proofs.Stopped.{meaning_from}

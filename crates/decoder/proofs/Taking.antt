@@ -26,7 +26,22 @@ use Rattle.standard.proofs.Utf8.{read_end, end-length, incomplete_length}
 use Rattle.decoder.specs.declared.stream.Stream.{Stream}
 use Rattle.decoder.specs.declared.feeding.Walked as code
 use Rattle.decoder.specs.Machine.{nothing, step}
-use Rattle.decoder.specs.Stream.{At, at_by, place_of, called_for, move_by, Walked, stops_at, onward, last_of, lacks_room, walk, is_part, record_of, at_of}
+use Rattle.decoder.specs.Stream.{
+  At,
+  at_by,
+  place_of,
+  called_for,
+  move_by,
+  Walked,
+  stops_at,
+  onward,
+  last_of,
+  lacks_room,
+  walk,
+  is_part,
+  record_of,
+  at_of,
+}
 use Rattle.decoder.specs.Turns.{Fits}
 use Rattle.decoder.specs.Feeding.{OpenAt, Open, byte_walk, Walks, Bounded, Moves}
 use Rattle.decoder.proofs.Keeps.{step_fits}

@@ -24,7 +24,21 @@ use Rattle.escaper.specs.declared.Mode.{Mode}
 use Rattle.escaper.specs.declared.Escaped.{Escaped}
 use Rattle.escaper.specs.Escape.{escaped, Escapes}
 use Rattle.checker.specs.declared.checking.Checked.{Checked}
-use Rattle.checker.specs.Transcript.{Row, rows_of, Left, left, right, remains, Verdict, verdict, judge, verdict_on, checked, checked_of, checked_bytes}
+use Rattle.checker.specs.Transcript.{
+  Row,
+  rows_of,
+  Left,
+  left,
+  right,
+  remains,
+  Verdict,
+  verdict,
+  judge,
+  verdict_on,
+  checked,
+  checked_of,
+  checked_bytes,
+}
 use Rattle.checker.proofs.RowLaws.{pieces-total}
 use Rattle.standard.proofs.Codes.{Placed, errors-placed}
 use Rattle.demands.proofs.RightRows.{Cuts, none, first}

@@ -72,7 +72,7 @@ other-written mode c own h differs =
     rw (ne_eqb c (code "&") (omega arith), ne_eqb c (code "<") (omega arith), ne_eqb c (code ">") (omega arith), ne_eqb c 0xA0 differs)
     (rw (ne_eqb c (code "\"") (omega arith), and-false) refl)
 
--- What a byte that is not quiet begins is what specialOf says.
+-- What a byte that is not quiet begins is what special_of says.
 first-begins : (mode : Mode) (b : ℕ) (s : List ℕ) (c n : ℕ) → read_char (b ∷ s) ≡ Char c n → quiet (quote_of mode) b ≡ false
     → Begun mode c n (special_of b (get_or s 0 0))
 unfolding special_of written_for

@@ -26,12 +26,12 @@ pub record Given : Type 0 where
   pub errors : List ℕ
 
 -- 'A 16-byte report gets the answer, text bytes (or verdict), errors (or row) and place .., and the answer is returned as well.'
-abbrev pub reported : (answer text errors place : ℕ) (writtenText writtenErrors : List ℕ) → Given
-reported answer text errors place writtenText writtenErrors = record {
+abbrev pub reported : (answer text errors place : ℕ) (written_text written_errors : List ℕ) → Given
+reported answer text errors place written_text written_errors = record {
   returned = answer;
   report = fours (answer ∷ text ∷ errors ∷ place ∷ []);
-  text = writtenText;
-  errors = writtenErrors;
+  text = written_text;
+  errors = written_errors;
 }
 
 -- 'Returns 5 first and touches nothing.'

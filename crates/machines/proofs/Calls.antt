@@ -14,7 +14,26 @@ use Rattle.standard.specs.declared.characters.CharRead.TheVariants.{Char, Incomp
 use Rattle.standard.specs.Utf8.{read_char}
 use Rattle.standard.specs.Answers.{done, ill_formed, too_long, stream_too_long, no_room, room_used_up, closed, longest_slice, text_room, errors_room}
 use Rattle.machines.specs.Machine.{Turn, stops, takes, Machine}
-use Rattle.machines.specs.Stream.{At, at_by, place_of, Stream, still, shut, is_still, outcome, Comes, lacks_room, lift, turn_by, byte, walk, refuses, feed, end_on, end}
+use Rattle.machines.specs.Stream.{
+  At,
+  at_by,
+  place_of,
+  Stream,
+  still,
+  shut,
+  is_still,
+  outcome,
+  Comes,
+  lacks_room,
+  lift,
+  turn_by,
+  byte,
+  walk,
+  refuses,
+  feed,
+  end_on,
+  end,
+}
 use Rattle.machines.specs.Records.{refused}
 use Rattle.machines.specs.Laws.{Sizes, reserved, Small, Proper, Bytes}
 use Rattle.machines.proofs.Walks.{walk_cases}

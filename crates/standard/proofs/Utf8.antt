@@ -112,7 +112,7 @@ abbrev pub LeadSays : ℕ → Lead → Type 0
 LeadSays b Bad = Unit {0}
 LeadSays b (Good need low high bits) = Opens need b low high bits
 
--- What leadOf says of a first byte is so.
+-- What lead_of says of a first byte is so.
 pub lead_says : (b : ℕ) → LeadSays b (lead_of b)
 lead_says b =
     if_both (LeadSays b) (ltb b 0x80) _ _ (λ t0. omega facts) (λ t0.

@@ -3,7 +3,18 @@ use native.Mathlib.Omega.{arith}
 use lib.ListN.{length, length-take}
 use Rattle.standard.specs.Utf8.{bytes}
 use Rattle.standard.proofs.Computing.{computing_parts}
-use Rattle.reporting.proofs.Sources.{called, read_end, closing_end, read_left, closing_left, refused_room, refused_written, numbers_there, rest_room, rest_written}
+use Rattle.reporting.proofs.Sources.{
+  called,
+  read_end,
+  closing_end,
+  read_left,
+  closing_left,
+  refused_room,
+  refused_written,
+  numbers_there,
+  rest_room,
+  rest_written,
+}
 use Rattle.reporting.proofs.write_source.Goals as goal
 
 pub slice_bounds-put_read-end : goal.slice_bounds-put_read-end

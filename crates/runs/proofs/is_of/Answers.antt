@@ -1,4 +1,4 @@
--- is_of is what isOf says of each kind.
+-- The code is what the definition says of each kind.
 use Rattle.runs.specs.Kinds.{quiet}
 use Rattle.runs.proofs.is_of.Goals as goal
 

@@ -1,4 +1,4 @@
--- digit_of is what digitOf says, test by test.
+-- The code is what the definition says, test by test.
 use Rattle.lists.proofs.Choice.{between_true}
 use Rattle.standard.specs.Numbers.{digit_of}
 use Rattle.checker.proofs.classes.digit_of.Goals as goal

@@ -1,4 +1,4 @@
--- The invariant: what digitsFrom gives from here on, after the number so far, is what it gives from the start.
+-- The invariant: what digits_from gives from here on, after the number so far, is what it gives from the start.
 use Prim.Native.Nat.{◌≤◌, ◌-◌}
 use mathlib.Core.Path.{◌≡◌}
 use lib.ListN.{length}

@@ -1,7 +1,18 @@
 use native.Mathlib.Omega.{arith}
 use borrow.Author.Tests.{not-true, not-false}
 use Rattle.checker.proofs.Meetings.{lent_length}
-use Rattle.checker.proofs.RowLaws.{judged_empty, judged_past, judged_byte, judged_plain, judged_inside, judged_text, judged_text_count, judged_errors, judged_errors_count, judged_right}
+use Rattle.checker.proofs.RowLaws.{
+  judged_empty,
+  judged_past,
+  judged_byte,
+  judged_plain,
+  judged_inside,
+  judged_text,
+  judged_text_count,
+  judged_errors,
+  judged_errors_count,
+  judged_right,
+}
 use Rattle.checker.proofs.rows.judge_row.Goals as goal
 
 pub returns-then-source-eq0 : goal.returns-then-source-eq0

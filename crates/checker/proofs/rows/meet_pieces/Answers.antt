@@ -39,18 +39,14 @@ meet_codes-met_errors-requires c =
 
 pub overflow_add-at : goal.overflow_add-at
 overflow_add-at c =
-    let there : (let size = c.piece_at-piece.result.size in (0 < size) × (c.loop-at.at + c.text_run-run.result + size ≤ length c.args.s.now)) =
-    next_there c.loop-at.invariant c.text_run-run.ensures c.loop-at-test.true
-    c.requires.1 c.if-here-end.false (piece_of c.piece_at-piece.result)
-    c.piece_at-piece.ensures in
+    let there = next_there c.loop-at.invariant c.text_run-run.ensures c.loop-at-test.true c.requires.1 c.if-here-end.false
+    (piece_of c.piece_at-piece.result) c.piece_at-piece.ensures in
     omega (arith, there, c.requires.2)
 
 pub loop-at-smaller : goal.loop-at-smaller
 loop-at-smaller c =
-    let there : (let size = c.piece_at-piece.result.size in (0 < size) × (c.loop-at.at + c.text_run-run.result + size ≤ length c.args.s.now)) =
-    next_there c.loop-at.invariant c.text_run-run.ensures c.loop-at-test.true
-    c.requires.1 c.if-here-end.false (piece_of c.piece_at-piece.result)
-    c.piece_at-piece.ensures in
+    let there = next_there c.loop-at.invariant c.text_run-run.ensures c.loop-at-test.true c.requires.1 c.if-here-end.false
+    (piece_of c.piece_at-piece.result) c.piece_at-piece.ensures in
     omega (arith, there)
 
 pub loop-at-preserved : goal.loop-at-preserved

@@ -12,8 +12,7 @@ pub put_piece-requires : goal.put_piece-requires
 put_piece-requires c =
     let first = c.put_piece-first.ensures in
     let mid = put_length first.0.texts in
-    let copied =
-    rest_copied c.args.held c.args.released c.requires.4 c.requires.2 c.requires.3 (omega (arith, c.requires.0, first.1))
+    let copied = rest_copied c.args.held c.args.released c.requires.4 c.requires.2 c.requires.3 (omega (arith, c.requires.0, first.1))
     c.copy-next.ensures in (
       omega (arith, c.requires.0, first.1, put_length copied.0, copied.1),
       omega (arith, c.requires.1, first.2, put_length first.0.numbers_of),
@@ -23,8 +22,7 @@ pub returns : goal.returns
 returns c =
     let first = c.put_piece-first.ensures in
     let mid = put_length first.0.texts in
-    let copied =
-    rest_copied c.args.held c.args.released c.requires.4 c.requires.2 c.requires.3 (omega (arith, c.requires.0, first.1))
+    let copied = rest_copied c.args.held c.args.released c.requires.4 c.requires.2 c.requires.3 (omega (arith, c.requires.0, first.1))
     c.copy-next.ensures in
     let last = c.put_piece.ensures in (
       wrote-join (wrote-join first.0 (wrote_text _ _ copied.0)) last.0,

@@ -1,4 +1,4 @@
--- digit_of is what digitOf says: each test of the code is a test of a range.
+-- The code is what the definition says: each test of the code is a test of a range.
 use Rattle.standard.specs.Numbers.{digit_of}
 use Rattle.lists.proofs.Tests.{tests}
 use Rattle.decoder.proofs.numbers.digit_of.Goals as goal

@@ -1,4 +1,4 @@
--- do_numeric reads what digitsFrom says: at each turn it is what digitsFrom gives from here on, after the number so far.
+-- do_numeric reads what digits_from says: at each turn it is what digits_from gives from here on, after the number so far.
 use Prim.Native.Nat.{◌≤◌, ◌-◌}
 use mathlib.Core.Path.{◌≡◌}
 use lib.ListN.{length}

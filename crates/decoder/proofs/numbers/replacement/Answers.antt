@@ -12,7 +12,7 @@ returns-then-n-lt128 c = sym (outside_c1 _ (inl c.if-n-lt128.true))
 pub returns-then-n-gt159 : goal.returns-then-n-gt159
 returns-then-n-gt159 c = sym (outside_c1 _ (inr c.if-n-gt159.true))
 
--- The array is the values of replacedBy from 0x80 on, by computing.
+-- The array is the values of replaced_by from 0x80 on, by computing.
 pub returns : goal.returns
 unfolding values replacements replaced_by
 returns c = value_of (replaced_by replacements) 32 0x80 c.args.n (omega arith) (omega arith)

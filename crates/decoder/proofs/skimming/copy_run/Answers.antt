@@ -29,14 +29,12 @@ slice_bounds-copy-start c = omega (arith, c.plain_end-end.ensures)
 
 pub slice_bounds-copy-end : goal.slice_bounds-copy-end
 slice_bounds-copy-end c =
-    let run : (let a = c.args in PlainRun a.context a.chunk.now a.at (length a.text.now - a.w) c.plain_end-end.result) =
-    run-plain c.args.context c.args.chunk.now c.args.at _ c.requires.0 (omega (arith, c.requires.1)) c.least-limit.ensures
+    let run = run-plain c.args.context c.args.chunk.now c.args.at _ c.requires.0 (omega (arith, c.requires.1)) c.least-limit.ensures
     (rw c.end_of.ensures at c.plain_end-end.ensures) in
     run.there
 
 pub returns : goal.returns
 returns c =
-    let run : (let a = c.args in PlainRun a.context a.chunk.now a.at (length a.text.now - a.w) c.plain_end-end.result) =
-    run-plain c.args.context c.args.chunk.now c.args.at _ c.requires.0 (omega (arith, c.requires.1)) c.least-limit.ensures
+    let run = run-plain c.args.context c.args.chunk.now c.args.at _ c.requires.0 (omega (arith, c.requires.1)) c.least-limit.ensures
     (rw c.end_of.ensures at c.plain_end-end.ensures) in
     (run, copy_fits (omega (arith, run_length run, c.requires.1)) c.copy.ensures)

@@ -13,33 +13,25 @@ loop-context-init c = looking_start
 
 pub returns-then-s-from : goal.returns-then-s-from
 returns-then-s-from c =
-    let passed : (let a = c.args in Looking (calls_for a.context) a.s.now c.ordinary_end-from.result) =
-    let context = c.args.context in
-    looking_run c.loop-context.invariant (ordinary (end_byte context)) (ascii-calls context)
+    let passed = looking_run c.loop-context.invariant (ordinary (end_byte c.args.context)) (ascii-calls c.args.context)
     (rw c.end_of.ensures at c.ordinary_end-from.ensures) in
     stop_is done _ (looking_end passed c.if-s-from.true)
 
 pub returns-in_default : goal.returns-in_default
 returns-in_default c =
-    let passed : (let a = c.args in Looking (calls_for a.context) a.s.now c.ordinary_end-from.result) =
-    let context = c.args.context in
-    looking_run c.loop-context.invariant (ordinary (end_byte context)) (ascii-calls context)
+    let passed = looking_run c.loop-context.invariant (ordinary (end_byte c.args.context)) (ascii-calls c.args.context)
     (rw c.end_of.ensures at c.ordinary_end-from.ensures) in
     turn_other passed c.if-s-from.false c.read_char.ensures c.in_default.not-Char
 
 pub returns-then-answer-ne0 : goal.returns-then-answer-ne0
 returns-then-answer-ne0 c =
-    let passed : (let a = c.args in Looking (calls_for a.context) a.s.now c.ordinary_end-from.result) =
-    let context = c.args.context in
-    looking_run c.loop-context.invariant (ordinary (end_byte context)) (ascii-calls context)
+    let passed = looking_run c.loop-context.invariant (ordinary (end_byte c.args.context)) (ascii-calls c.args.context)
     (rw c.end_of.ensures at c.ordinary_end-from.ensures) in
     turn_called passed c.if-s-from.false c.read_char.ensures c.in-Char.is c.calls_for-answer.ensures c.if-answer-ne0.true
 
 pub loop-context-preserved : goal.loop-context-preserved
 loop-context-preserved c =
-    let passed : (let a = c.args in Looking (calls_for a.context) a.s.now c.ordinary_end-from.result) =
-    let context = c.args.context in
-    looking_run c.loop-context.invariant (ordinary (end_byte context)) (ascii-calls context)
+    let passed = looking_run c.loop-context.invariant (ordinary (end_byte c.args.context)) (ascii-calls c.args.context)
     (rw c.end_of.ensures at c.ordinary_end-from.ensures) in
     turn_none passed c.if-s-from.false c.read_char.ensures c.in-Char.is c.calls_for-answer.ensures c.if-answer-ne0.false
 
@@ -48,9 +40,7 @@ overflow_add-at c = omega (arith, (loop-context-preserved c).there)
 
 pub loop-context-smaller : goal.loop-context-smaller
 loop-context-smaller c =
-    let passed : (let a = c.args in Looking (calls_for a.context) a.s.now c.ordinary_end-from.result) =
-    let context = c.args.context in
-    looking_run c.loop-context.invariant (ordinary (end_byte context)) (ascii-calls context)
+    let passed = looking_run c.loop-context.invariant (ordinary (end_byte c.args.context)) (ascii-calls c.args.context)
     (rw c.end_of.ensures at c.ordinary_end-from.ensures) in
     omega (
       arith,

@@ -21,8 +21,7 @@ returns-then-found-ne0 c =
     let found_is : c.longest_name-found.result ≡ longest builtin (name_of c.args.held) =
     found_read c.requires.0 c.requires.2 c.longest_name-found.ensures
     ∙ settled builtin (name_of c.args.held) (ascii_of c.args.c) [] (sym (ap (begins builtin) c.requires.2) ∙ c.requires.3) in
-    let named-is : (let h = name_of c.args.held in piece_of c.named_by-released.result ≡ named_by c.args.context (longest builtin h) (h ++ ascii_of c.args.c ∷ [])) =
-    c.named_by-released.ensures ∙ (λ i. named_by c.args.context (found_is i) (c.requires.2 i)) in
+    let named-is = c.named_by-released.ensures ∙ (λ i. named_by c.args.context (found_is i) (c.requires.2 i)) in
     settle_found c.requires.1 c.args.context c.args.p _ named-is
     (λ none. c.if-found-ne0.true (ap (λ (f : Found). f.len) found_is ∙ none)) c.turn_data.ensures
 
@@ -31,8 +30,7 @@ returns-then-not-alphanumeric c =
     let found_is : c.longest_name-found.result ≡ longest builtin (name_of c.args.held) =
     found_read c.requires.0 c.requires.2 c.longest_name-found.ensures
     ∙ settled builtin (name_of c.args.held) (ascii_of c.args.c) [] (sym (ap (begins builtin) c.requires.2) ∙ c.requires.3) in
-    let named-is : (let h = name_of c.args.held in piece_of c.named_by-released.result ≡ named_by c.args.context (longest builtin h) (h ++ ascii_of c.args.c ∷ [])) =
-    c.named_by-released.ensures ∙ (λ i. named_by c.args.context (found_is i) (c.requires.2 i)) in
+    let named-is = c.named_by-released.ensures ∙ (λ i. named_by c.args.context (found_is i) (c.requires.2 i)) in
     settle_ends c.requires.1 c.args.context c.args.p _ named-is
     (sym (ap (λ (f : Found). f.len) found_is) ∙ c.if-found-ne0.false)
     (ascii_letter c.args.c c.ascii.ensures c.alphanumeric.ensures c.if-not-alphanumeric.true) c.turn_data-then-not-alphanumeric.ensures
@@ -42,8 +40,7 @@ returns c =
     let found_is : c.longest_name-found.result ≡ longest builtin (name_of c.args.held) =
     found_read c.requires.0 c.requires.2 c.longest_name-found.ensures
     ∙ settled builtin (name_of c.args.held) (ascii_of c.args.c) [] (sym (ap (begins builtin) c.requires.2) ∙ c.requires.3) in
-    let named-is : (let h = name_of c.args.held in piece_of c.named_by-released.result ≡ named_by c.args.context (longest builtin h) (h ++ ascii_of c.args.c ∷ [])) =
-    c.named_by-released.ensures ∙ (λ i. named_by c.args.context (found_is i) (c.requires.2 i)) in
+    let named-is = c.named_by-released.ensures ∙ (λ i. named_by c.args.context (found_is i) (c.requires.2 i)) in
     settle_goes c.requires.1 c.args.context c.args.p _ named-is
     (sym (ap (λ (f : Found). f.len) found_is) ∙ c.if-found-ne0.false)
     (ascii_letter c.args.c c.ascii.ensures c.alphanumeric.ensures c.if-not-alphanumeric.false)

@@ -2,7 +2,19 @@ use mathlib.Core.Path.{refl}
 use native.Mathlib.Omega.{arith}
 use Rattle.decoder.specs.Machine.{Data, Numeric}
 use Rattle.decoder.specs.Stream.{store_of, mark_of, kind_of}
-use Rattle.decoder.proofs.TurnLaws.{ascii_is, ascii_not, ascii_digit, ascii_no_digit, follows_none, turns, turns_last, number_closed, number_open, turns_absorbed, numeric_is}
+use Rattle.decoder.proofs.TurnLaws.{
+  ascii_is,
+  ascii_not,
+  ascii_digit,
+  ascii_no_digit,
+  follows_none,
+  turns,
+  turns_last,
+  number_closed,
+  number_open,
+  turns_absorbed,
+  numeric_is,
+}
 use Rattle.decoder.proofs.turns.turn_numeric.Goals as goal
 
 pub returns-then-digit-base : goal.returns-then-digit-base

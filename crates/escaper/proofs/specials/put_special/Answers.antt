@@ -1,4 +1,4 @@
--- put_special writes what textOf says: each case is one copy.
+-- put_special writes what text_of says: each case is one copy.
 use Rattle.standard.proofs.Computing.{computing}
 use Rattle.escaper.proofs.specials.put_special.Goals as goal
 

@@ -1,4 +1,4 @@
--- special_at is what specialOf says: each test of the code is a test of the definition.
+-- special_at is what special_of says: each test of the code is a test of the definition.
 use Prim.Native.Nat.{◌+◌}
 use mathlib.Core.Path.{◌≡◌, sym, ◌∙◌}
 use lib.ListN.{get_or}

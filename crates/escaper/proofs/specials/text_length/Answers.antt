@@ -1,4 +1,4 @@
--- text_length is the length of what textOf says: each case by computing.
+-- text_length is the length of what text_of says: each case by computing.
 use borrow.Author.Rules.{rules}
 use Rattle.standard.proofs.Computing.{computing}
 use Rattle.escaper.proofs.specials.text_length.Goals as goal

@@ -1,4 +1,4 @@
--- lead_of is what leadOf says: each test of the code is a test of the definition.
+-- The code is what the definition says: each test of the code is a test of the definition.
 use borrow.Author.Tests.{lt-ltb, le-ltb, eq-eqb, ne_eqb}
 use borrow.Author.Rules.{rules}
 use Rattle.standard.proofs.characters.lead_of.Goals as goal

@@ -1,4 +1,4 @@
--- read_char is what readChar says: the first byte by lead_of, the others by read_tails.
+-- The code is what the definition says: the first byte by lead_of, the others by read_tails.
 use mathlib.Core.Path.{sym, ◌∙◌}
 use native.Mathlib.Omega.{arith}
 use lib.ListN.{get_or}

@@ -14,21 +14,18 @@ returns-then-answer-ne0 c =
 
 pub overflow_cast-result : goal.overflow_cast-result
 overflow_cast-result c =
-    let goes_on : (let a = c.args in NotRefused a.self 0 (length a.text.now) (length a.errors.now)) =
-    not_refused _ _ _ _ c.refusal-answer.ensures c.if-answer-ne0.false in
+    let goes_on = not_refused _ _ _ _ c.refusal-answer.ensures c.if-answer-ne0.false in
     omega (arith, (opened _ goes_on.stands_open).part)
 
 pub overflow_sub-result : goal.overflow_sub-result
 overflow_sub-result c =
-    let goes_on : (let a = c.args in NotRefused a.self 0 (length a.text.now) (length a.errors.now)) =
-    not_refused _ _ _ _ c.refusal-answer.ensures c.if-answer-ne0.false in
+    let goes_on = not_refused _ _ _ _ c.refusal-answer.ensures c.if-answer-ne0.false in
     omega (arith, (opened _ goes_on.stands_open).were)
 
 pub returns-then-self-gt0 : goal.returns-then-self-gt0
 unfolding fed_of
 returns-then-self-gt0 c =
-    let goes_on : (let a = c.args in NotRefused a.self 0 (length a.text.now) (length a.errors.now)) =
-    not_refused _ _ _ _ c.refusal-answer.ensures c.if-answer-ne0.false in
+    let goes_on = not_refused _ _ _ _ c.refusal-answer.ensures c.if-answer-ne0.false in
     let r = c.args.self in
     let n : length r.part ≡ 3 = search (rules, c.well_formed) in
     let a = goes_on in
@@ -44,15 +41,13 @@ returns-then-self-gt0 c =
 
 pub canonical-held-requires : goal.canonical-held-requires
 canonical-held-requires c =
-    let goes_on : (let a = c.args in NotRefused a.self 0 (length a.text.now) (length a.errors.now)) =
-    not_refused _ _ _ _ c.refusal-answer.ensures c.if-answer-ne0.false in
+    let goes_on = not_refused _ _ _ _ c.refusal-answer.ensures c.if-answer-ne0.false in
     let p = opened _ goes_on.stands_open in
     (p.count, p.stored)
 
 pub put_last-last-requires : goal.put_last-last-requires
 put_last-last-requires c =
-    let goes_on : (let a = c.args in NotRefused a.self 0 (length a.text.now) (length a.errors.now)) =
-    not_refused _ _ _ _ c.refusal-answer.ensures c.if-answer-ne0.false in
+    let goes_on = not_refused _ _ _ _ c.refusal-answer.ensures c.if-answer-ne0.false in
     let r = c.args.self in
     let a = goes_on in
     (search rules, is_fit r.held (opened r a.stands_open).stored c.canonical-held.ensures, a.text_room, a.errors_room)
@@ -65,8 +60,7 @@ overflow_cast-result-3 c = let w = c.put_last-last.ensures in omega (arith, w.1,
 
 pub returns : goal.returns
 returns c =
-    let goes_on : (let a = c.args in NotRefused a.self 0 (length a.text.now) (length a.errors.now)) =
-    not_refused _ _ _ _ c.refusal-answer.ensures c.if-answer-ne0.false in
+    let goes_on = not_refused _ _ _ _ c.refusal-answer.ensures c.if-answer-ne0.false in
     let r = c.args.self in
     let a = goes_on in
     let e = same_state r.held (opened r a.stands_open).stored c.canonical-held.ensures in

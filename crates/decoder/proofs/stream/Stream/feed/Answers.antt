@@ -2,7 +2,18 @@ use mathlib.Core.Path.{refl}
 use native.Mathlib.Omega.{arith}
 use lib.ListN.{length}
 use borrow.Author.Rules.{rules}
-use Rattle.decoder.proofs.Returns.{opened, cleared_open, cleared_taken, cleared_walk, NotRefused, not_refused, feed_refused, feed_walks, feeds-nothing, walk_feeds}
+use Rattle.decoder.proofs.Returns.{
+  opened,
+  cleared_open,
+  cleared_taken,
+  cleared_walk,
+  NotRefused,
+  not_refused,
+  feed_refused,
+  feed_walks,
+  feeds-nothing,
+  walk_feeds,
+}
 use Rattle.decoder.proofs.stream.Stream.feed.Goals as goal
 
 pub returns-then-answer-ne0 : goal.returns-then-answer-ne0
@@ -11,14 +22,12 @@ returns-then-answer-ne0 c =
 
 pub cleared_record-requires : goal.cleared_record-requires
 cleared_record-requires c =
-    let goes_on : (let a = c.args in NotRefused a.self (length a.chunk.now) (length a.text.now) (length a.errors.now)) =
-    not_refused _ _ _ _ c.refusal-answer.ensures c.if-answer-ne0.false in
+    let goes_on = not_refused _ _ _ _ c.refusal-answer.ensures c.if-answer-ne0.false in
     goes_on.stands_open
 
 pub walk-walked-requires : goal.walk-walked-requires
 walk-walked-requires c =
-    let goes_on : (let a = c.args in NotRefused a.self (length a.chunk.now) (length a.text.now) (length a.errors.now)) =
-    not_refused _ _ _ _ c.refusal-answer.ensures c.if-answer-ne0.false in
+    let goes_on = not_refused _ _ _ _ c.refusal-answer.ensures c.if-answer-ne0.false in
     let r = c.args.self in
     let p = opened r goes_on.stands_open in
     let is = c.cleared_record.ensures in
@@ -26,8 +35,7 @@ walk-walked-requires c =
 
 pub walked_to-requires : goal.walked_to-requires
 walked_to-requires c =
-    let goes_on : (let a = c.args in NotRefused a.self (length a.chunk.now) (length a.text.now) (length a.errors.now)) =
-    not_refused _ _ _ _ c.refusal-answer.ensures c.if-answer-ne0.false in
+    let goes_on = not_refused _ _ _ _ c.refusal-answer.ensures c.if-answer-ne0.false in
     let r = c.args.self in
     let a = goes_on in
     let b = c.walk-walked.ensures.1 in (
@@ -39,8 +47,7 @@ walked_to-requires c =
 
 pub returns : goal.returns
 returns c =
-    let goes_on : (let a = c.args in NotRefused a.self (length a.chunk.now) (length a.text.now) (length a.errors.now)) =
-    not_refused _ _ _ _ c.refusal-answer.ensures c.if-answer-ne0.false in
+    let goes_on = not_refused _ _ _ _ c.refusal-answer.ensures c.if-answer-ne0.false in
     let a = c.args in
     let k = goes_on in
     rw (feed_walks _ _ _ k.stands_open _ k.short k.within k.text_room k.errors_room)
