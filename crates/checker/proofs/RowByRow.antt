@@ -174,7 +174,8 @@ rows_plain {names} {context} {s} {rows} {text} {errors} {next} {i} {at} {t} {e} 
         let d : t + 0 ≡ t = omega arith in rw (a, b, c, d) w
     go (suc n) h k l units same =
         let rest = go n (omega arith) (omega arith) (omega arith) (λ j m. units j (omega arith)) (λ j m. same j (omega arith)) in
-        let u = unit_is (get_or rows (next + 3 * n) 0) (get_or rows (next + 3 * n + 1) 0) (get_or rows (next + 3 * n + 2) 0) (units n (omega arith)) in
+        let u = unit_is (get_or rows (next + 3 * n) 0) (get_or rows (next + 3 * n + 1) 0) (get_or rows (next + 3 * n + 2) 0)
+        (units n (omega arith)) in
         let one : PlainRow s (at + n) 1 text (t + n) 1 0 = record {
           bytes = refl;
           no_errors = refl;

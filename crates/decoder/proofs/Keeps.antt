@@ -59,7 +59,8 @@ last_byte c e = if_both Last (scalar c) _ _ (λ t. of_octets c e) (λ f. refl)
         (λ g. ne_eqb (0x80 + d % 64) (code ";") (omega arith))))
 
 -- A beginning of some name that goes on with a character but `;` is held.
-held_name_on : (held : List ℕ) (c : ℕ) → begins builtin (held ++ encode c) ≡ true → eqb c (code ";") ≡ false → held_name builtin (held ++ encode c) ≡ true
+held_name_on : (held : List ℕ) (c : ℕ) → begins builtin (held ++ encode c) ≡ true → eqb c (code ";") ≡ false
+    → held_name builtin (held ++ encode c) ≡ true
 held_name_on held c e f =
     let own = encode c in
     let n = length-append held own in
@@ -147,5 +148,6 @@ module _ (p c t n : ℕ) (here : p ≤ t) (some : 1 ≤ n) where
 -- A step of a state within the limits gives one within the limits.
 pub step_fits : (context : Context) (st : St) (p c : ℕ) → Fits st → Fits (step builtin context st p c (encode c)).next
 step_fits context st p c f =
-    (step_keeps p c (mark_of st + p) (length (store_of st) + length (encode c)) (omega arith) (omega (arith, encode-short c)) context st f (omega arith)
+    (step_keeps p c (mark_of st + p) (length (store_of st) + length (encode c)) (omega arith) (omega (arith, encode-short c)) context st f
+    (omega arith)
     (omega arith)).fits

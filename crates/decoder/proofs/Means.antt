@@ -100,7 +100,8 @@ named-near context found h s t e fits same =
     last : (l : List ℕ) → get_or (h ++ l) (found.len - 1) 0 ≡ get_or h (found.len - 1) 0
     last l = get_or-append h l 0 (found.len - 1) (omega facts)
 
-    near : (h : List ℕ) → next_passes (λ c. eqb c (code "=") || alphanumeric c) (h ++ s) ≡ next_passes (λ c. eqb c (code "=") || alphanumeric c) (h ++ t)
+    near : (h : List ℕ) → next_passes (λ c. eqb c (code "=") || alphanumeric c) (h ++ s) ≡ next_passes (λ c. eqb c (code "=") || alphanumeric c)
+        (h ++ t)
     near [] = same
     near (x ∷ h) = refl
 

@@ -421,7 +421,8 @@ alone-stands p (inl none) some = absurd (omega (arith, ap (λ (x : Piece). x.siz
 alone-stands p (inr a) some = a
 
 -- Bytes of a reference so far, and one more.
-pub between_more : (s : List ℕ) (at : ℕ) → 1 ≤ at → at < length s → every in_reference (take (at - 1) (drop 1 s)) ≡ true → in_reference (get_or s at 0)
+pub between_more : (s : List ℕ) (at : ℕ) → 1 ≤ at → at < length s → every in_reference (take (at - 1) (drop 1 s)) ≡ true
+    → in_reference (get_or s at 0)
     ≡ true
     → every in_reference (take (at + 1 - 1) (drop 1 s)) ≡ true
 between_more s at some there so_far more =

@@ -114,7 +114,8 @@ all_read q s x {y} e n =
     ∙ (λ i. reading (append-nil y.text i) (append-nil (placed q y.codes) i))
 
 -- An `&` alone, and the bytes s after it.
-pub alone-read : (q error : ℕ) (s : List ℕ) → reading_at q (piece_of (one_of 1 0x26 error 0)) ⊕ text_only s ≡ reading_at q (ampersand error) ⊕ text_only s
+pub alone-read : (q error : ℕ) (s : List ℕ)
+    → reading_at q (piece_of (one_of 1 0x26 error 0)) ⊕ text_only s ≡ reading_at q (ampersand error) ⊕ text_only s
 alone-read q error s = ap (λ (y : standard.Piece). reading_at q y ⊕ text_only s) (alone error)
 
 module _ {held : Held} {s : List ℕ} (stored : Stored held s) where

@@ -342,7 +342,8 @@ pub cutting : {context : Context} {r : Stream} {source text errors : List ℕ} {
 cutting begins run = StreamLaws.run_whole begins run
 
 -- None of a run's answers is 8; and over each source of at most 16,777,216 bytes there is a run.
-pub never_closed : (context : Context) {source : List ℕ} {g : Reading} {answer place : ℕ} (run : Cutting.Runs (new_stream context) source g answer place)
+pub never_closed : (context : Context) {source : List ℕ} {g : Reading} {answer place : ℕ}
+    (run : Cutting.Runs (new_stream context) source g answer place)
     → All (λ (n : ℕ). n ≢ closed) (Cutting.answers run)
 never_closed = Cutting.never_closed
 
@@ -457,7 +458,8 @@ longest-name_settled = settled _ _ (λ κs a. tt) (λ κs a x e p. (p, refl))
 pub begins-name_settled : Settled (ended_of 2 BeginsName.Kinds.ps BeginsName.Kinds.r) BeginsName.Reads.Pre BeginsName.Reads.Post (λ κs e. [])
 begins-name_settled = settled _ _ (λ κs a. tt) (λ κs a x e p. (p, refl))
 
-pub builtin-names_settled : Settled (ended_of 0 BuiltinNames.Kinds.ps BuiltinNames.Kinds.r) BuiltinNames.Reads.Pre BuiltinNames.Reads.Post (λ κs e. [])
+pub builtin-names_settled : Settled (ended_of 0 BuiltinNames.Kinds.ps BuiltinNames.Kinds.r) BuiltinNames.Reads.Pre BuiltinNames.Reads.Post
+    (λ κs e. [])
 builtin-names_settled = settled _ _ (λ κs a. tt) (λ κs a x e p. (p, refl))
 
 pub ascii-end_settled : Settled (ended_of 1 AsciiEnd.Kinds.ps AsciiEnd.Kinds.r) AsciiEnd.Reads.Pre AsciiEnd.Reads.Post (λ κs e. [])
@@ -475,7 +477,8 @@ quiet-end_settled = settled _ _ (λ κs a. tt) (λ κs a x e p. (p, refl))
 pub copy_settled : Settled (ended_of 2 Copy.Kinds.ps Copy.Kinds.r) Copy.Reads.Pre Copy.Reads.Post (λ κs e. e.1.0.now ∷ [])
 copy_settled = settled _ _ (λ κs a. tt) (λ κs a x e p. (p.next_is, λ i. p.new_is i ∷ []))
 
-pub put_numbers_settled : Settled (ended_of 2 PutNumbers.Kinds.ps PutNumbers.Kinds.r) PutNumbers.Reads.Pre PutNumbers.Reads.Post (λ κs e. e.1.0.now ∷ [])
+pub put_numbers_settled : Settled (ended_of 2 PutNumbers.Kinds.ps PutNumbers.Kinds.r) PutNumbers.Reads.Pre PutNumbers.Reads.Post
+    (λ κs e. e.1.0.now ∷ [])
 put_numbers_settled = settled _ _ (λ κs a. tt) (λ κs a x e p. (p.next_is, λ i. p.new_is i ∷ []))
 
 pub decode-whole_settled : Settled (ended_of 3 DecodeWhole.Kinds.ps DecodeWhole.Kinds.r) DecodeWhole.Reads.Pre DecodeWhole.Reads.Post
@@ -507,15 +510,18 @@ check-bytes_settled = settled _ _ (λ κs a. tt) (λ κs a x e p. (p, refl))
 pub report_settled : Settled (ended_of 3 Report.Kinds.ps Report.Kinds.r) Report.Reads.Pre Report.Reads.Post (λ κs e. e.1.0.now ∷ e.1.1.0.now ∷ [])
 report_settled = settled _ _ (λ κs a. tt) (λ κs a x e p. (p.written.next_is, λ i. p.written.new_is i ∷ p.numbers_of i ∷ []))
 
-pub plankskein_decode_settled : Settled (ended_of 4 PlankskeinDecode.Kinds.ps PlankskeinDecode.Kinds.r) PlankskeinDecode.Reads.Pre PlankskeinDecode.Reads.Post
+pub plankskein_decode_settled : Settled (ended_of 4 PlankskeinDecode.Kinds.ps PlankskeinDecode.Kinds.r) PlankskeinDecode.Reads.Pre
+    PlankskeinDecode.Reads.Post
     (λ κs e. e.1.1.0.now ∷ e.1.1.1.0.now ∷ e.1.1.1.1.0.now ∷ [])
 plankskein_decode_settled = settled _ _ (λ κs a. tt) (λ κs a x e p. (p.answered, λ i. p.texts i ∷ p.numbers_of i ∷ p.reports i ∷ []))
 
-pub plankskein_escape_settled : Settled (ended_of 3 PlankskeinEscape.Kinds.ps PlankskeinEscape.Kinds.r) PlankskeinEscape.Reads.Pre PlankskeinEscape.Reads.Post
+pub plankskein_escape_settled : Settled (ended_of 3 PlankskeinEscape.Kinds.ps PlankskeinEscape.Kinds.r) PlankskeinEscape.Reads.Pre
+    PlankskeinEscape.Reads.Post
     (λ κs e. e.1.1.0.now ∷ e.1.1.1.0.now ∷ [])
 plankskein_escape_settled = settled _ _ (λ κs a. tt) (λ κs a x e p. (p.answered, λ i. p.texts i ∷ p.reports i ∷ []))
 
-pub plankskein_check_settled : Settled (ended_of 5 PlankskeinCheck.Kinds.ps PlankskeinCheck.Kinds.r) PlankskeinCheck.Reads.Pre PlankskeinCheck.Reads.Post
+pub plankskein_check_settled : Settled (ended_of 5 PlankskeinCheck.Kinds.ps PlankskeinCheck.Kinds.r) PlankskeinCheck.Reads.Pre
+    PlankskeinCheck.Reads.Post
     (λ κs e. e.1.1.1.1.1.0.now ∷ [])
 plankskein_check_settled = settled _ _ (λ κs a. tt) (λ κs a x e p. (p.answered, λ i. p.reports i ∷ []))
 

@@ -352,9 +352,9 @@ module _ (r : Stream) (text errors : List ℕ) (fed : Fed) (text' errors' : List
       abbrev shut : List ℕ → Stream
       shut before = closed_by r.context (r.taken + length before)
 
-      -- 8, 3, 4 and 5: nothing changes. 6: the bytes before one that lacks room are taken, what they release is written, and the stream is open. 1 and
-      -- 2: the same, but that what is held is dropped, the place is the character's, and the stream is closed. 7: what is held is written. 0: all is
-      -- taken.
+      -- 8, 3, 4 and 5: nothing changes. 6: the bytes before one that lacks room are taken, what they release is written, and the stream is open.
+      -- 1 and 2: the same, but that what is held is dropped, the place is the character's, and the stream is closed. 7: what is held is written. 0:
+      -- all is taken.
       pub feed_table : Table fed.answer
           ((closed when Closed with Unchanged closed)
           ∷ (too_long when ChunkTooLong with Unchanged too_long)
@@ -467,7 +467,10 @@ module _ (r : Stream) (text errors : List ℕ) (fed : Fed) (text' errors' : List
         (
           end_line no_room EndNoRoom _ (end_only no_room)
               (λ w. (answered d (end_room r _ _ w.0 w.1), gives d (end_room r _ _ w.0 w.1))),
-          (end_line ill_formed EndInside _ (end_only ill_formed) (λ w. (answered d (is_inside w), gives d (is_inside w))), (end_line done EndWhole _ (end_only done) (λ w. (answered d (is_whole w), gives d (is_whole w))), tt)),
+          (
+            end_line ill_formed EndInside _ (end_only ill_formed) (λ w. (answered d (is_inside w), gives d (is_inside w))),
+            (end_line done EndWhole _ (end_only done) (λ w. (answered d (is_whole w), gives d (is_whole w))), tt),
+          ),
         ),
       );
       no_other = subst EndOneOf (sym end_cause.2) end_cause.3;

@@ -94,7 +94,8 @@ pub check_bytes : Fixes 4 check-bytes-kinds.ps check-bytes-kinds.r check-bytes-r
 check_bytes κs a x y e f p q = only p q
 
 -- An `ensures` of a function with lent buffers leaves one result and, of each buffer, one content: lent picks them out of the parameters at exit.
-abbrev pub FixesLent : (n : ℕ) (ps : List (ParamKind n)) (r : ResultKind n) (B : Type 0) → ((κs : Lfts n) → AtExit (ended_of n ps r) κs → B) → Out n ps r → Type 0
+abbrev pub FixesLent : (n : ℕ) (ps : List (ParamKind n)) (r : ResultKind n) (B : Type 0) → ((κs : Lfts n) → AtExit (ended_of n ps r) κs → B)
+    → Out n ps r → Type 0
 FixesLent n ps r B lent ensures =
     (κs : Lfts n) (a : Dens κs ps) (x y : (res_t r κs).Denot) (e f : AtExit (ended_of n ps r) κs) → ensures κs a x e → ensures κs a y f
     → (x ≡ y) × (lent κs e ≡ lent κs f)

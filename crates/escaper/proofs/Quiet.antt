@@ -49,7 +49,8 @@ quiet-tails mode c =
     Tails l = every (quiet (quote_of mode)) (drop 1 l) ≡ true
 
 -- A character whose first byte is quiet is none whose first byte isn't.
-other-character : (mode : Mode) (c v : ℕ) → quiet (quote_of mode) (get_or (octets c) 0 0) ≡ true → quiet (quote_of mode) (get_or (octets v) 0 0) ≡ false
+other-character : (mode : Mode) (c v : ℕ) → quiet (quote_of mode) (get_or (octets c) 0 0) ≡ true
+    → quiet (quote_of mode) (get_or (octets v) 0 0) ≡ false
     → eqb c v ≡ false
 other-character mode c v p q = ne_eqb c v (λ e. no_way (sym p ∙ ap (λ (n : ℕ). quiet (quote_of mode) (get_or (octets n) 0 0)) e ∙ q))
 

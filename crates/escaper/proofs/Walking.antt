@@ -111,7 +111,7 @@ abbrev pub Loud : Mode → List ℕ → ℕ → Type 0
 Loud mode s at = at < length s → quiet (quote_of mode) (get_or s at 0) ≡ false
 
 -- A run of quiet bytes is written as it stands, and it ends before a byte that is not quiet or at the end.
-pub run-moves : (mode : Mode) (s : List ℕ) (at next : ℕ) → Sound s at → next ≡ at + length (front (quiet (quote_of mode)) (drop at s))
+run-moves : (mode : Mode) (s : List ℕ) (at next : ℕ) → Sound s at → next ≡ at + length (front (quiet (quote_of mode)) (drop at s))
     → Moves mode s at (take (next - at) (drop at s)) next × Loud mode s next
 run-moves mode s at next h e =
     let u : List ℕ = front (quiet (quote_of mode)) (drop at s) in
@@ -141,13 +141,14 @@ stop-character s at c n h e =
     )
 
 -- What a byte that is not quiet begins is written as it says.
-pub special_moves : (mode : Mode) (s : List ℕ) (at next : ℕ) (x : Special) → Sound s at → at < length s → Loud mode s at
+special_moves : (mode : Mode) (s : List ℕ) (at next : ℕ) (x : Special) → Sound s at → at < length s → Loud mode s at
     → x ≡ special_of (get_or s at 0) (get_or s (at + 1) 0) → next ≡ at + source_length x
     → Moves mode s at (text_of x (take (next - at) (drop at s))) next × (at < next)
 special_moves mode s at next x h there loud e n =
     let k = sound-character at (drop at s) (simp length-drop (omega arith)) h.well_formed in
     let m = stop-character s at k.0 k.1 there k.2 in
-    let first : get_or (drop at s) 0 0 ≡ get_or s at 0 = get_or-drop at s 0 0 ∙ ap (λ (i : ℕ). get_or s i 0) (let z : at + 0 ≡ at = omega arith in z) in
+    let first : get_or (drop at s) 0 0 ≡ get_or s at 0 = get_or-drop at s 0 0 ∙ ap (λ (i : ℕ). get_or s i 0)
+    (let z : at + 0 ≡ at = omega arith in z) in
     let g = rw (first, get_or-drop at s 1 0, sym e) at (special_begins mode (drop at s) k.0 k.1 k.2 (rw first (loud there))) in
     let size : k.1 ≡ next - at = omega arith in
     let i : at + k.1 ≡ next = omega arith in (
@@ -157,3 +158,15 @@ special_moves mode s at next x h there loud e n =
       },
       omega arith,
     )
+
+-- The walk's next run, as the code finds it: its bytes are written as they stand, and it ends before a byte that is not quiet or at the end.
+pub run_passed : {mode : Mode} {s : List ℕ} {at quote end : ℕ} → Sound s at → quote ≡ quote_of mode
+    → end ≡ at + length (front (quiet quote) (drop at s)) → Moves mode s at (take (end - at) (drop at s)) end × Loud mode s end
+run_passed {mode} {s} {at} {quote} {end} h q e = run-moves mode s at end h (rw q at e)
+
+-- And what the byte at its end begins, as the code finds it.
+pub special_passed : {mode : Mode} {s u : List ℕ} {at end size : ℕ} {x : Special} → Moves mode s at u end × Loud mode s end → end < length s
+    → x ≡ special_of (get_or s end 0) (get_or s (end + 1) 0) → size ≡ source_length x
+    → Moves mode s end (text_of x (take (end + size - end) (drop end s))) (end + size) × (end < end + size)
+special_passed {mode} {s} {end = end} {size} {x} run there is n =
+    special_moves mode s end (end + size) x run.0.sound there run.1 is (rw n refl)

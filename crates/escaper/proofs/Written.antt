@@ -23,8 +23,8 @@ pub counted_none : (mode : Mode) (s : List ℕ) → (escape_stop s).answer ≡ d
 counted_none mode s h = record { sound = record { there = omega arith; well_formed = h }; all = omega arith }
 
 -- The text of a move is counted.
-pub counted-on : {mode : Mode} {s u : List ℕ} {at count next last : ℕ} → Counted mode s at count → Moves mode s at u next → last ≡ count + length u
-    → Counted mode s next last
+pub counted-on : {mode : Mode} {s u : List ℕ} {at count next size : ℕ} → Counted mode s at count → Moves mode s at u next → size ≡ length u
+    → Counted mode s next (count + size)
 counted-on h m e = record { sound = m.sound; all = omega (arith, h.all, simp length-append at (ap length m.written)) }
 
 -- At the end all is counted.

@@ -51,7 +51,8 @@ table =
 
 -- `unfolding computing_calls` opens the definitions of the three calls.
 unfoldable computing_calls : Unit {0}
-unfolding numbers fours answer_of written_of decoded_of written_for escape_from escape_answer escape_written escaped_of rows_of total reached wrong judge
+unfolding numbers fours answer_of written_of decoded_of written_for escape_from escape_answer escape_written escaped_of rows_of total reached wrong
+    judge
 computing_calls = tt
 
 -- The definitions give what each row says.

@@ -68,11 +68,17 @@ module _ (M : Machine) {Sound : At M.State → Type 0} (laws : Joins M) (sizes :
           let here = after r at is (end_least M at false i (takes says g next) e) in
           let (answer, place, h, f) = laws.once at.st e in
           let there = after (end_of M R r text_room errors_room).after (at_by next [] at.taken) here
-          (end_least M (at_by next [] at.taken) false refl (stops answer place h) f) in
-          (_, _, _, asks r text_room errors_room refl (ap is_still here) (ends (end_of M R r text_room errors_room).after text_room errors_room refl (ap is_still there)))
+          (end_least M (at_by next [] at.taken) false refl (stops answer place h) f) in (
+            _,
+            _,
+            _,
+            asks r text_room errors_room refl (ap is_still here)
+                (ends (end_of M R r text_room errors_room).after text_room errors_room refl (ap is_still there)),
+          )
 
   -- From a record of an open stream.
-  pub runs_exist : (r : Rec) (at : At M.State) → R.view r ≡ still at → (source : List ℕ) → at.taken + length source ≤ limit → HasRun M R limit r source
+  pub runs_exist : (r : Rec) (at : At M.State) → R.view r ≡ still at → (source : List ℕ) → at.taken + length source ≤ limit
+      → HasRun M R limit r source
   runs_exist r at is [] short = run_end r at is
   runs_exist r at is (b ∷ s) short = by (byte M at b) refl (λ next f h. runs_exist o.after next f s h)
     where
@@ -83,14 +89,16 @@ module _ (M : Machine) {Sound : At M.State → Type 0} (laws : Joins M) (sizes :
       after = feed_after M sizes proper R faithful r is (b ∷ []) text_room errors_room
 
       by : (turn : Turn (At M.State) M.Out) → byte M at b ≡ turn
-          → ((next : At M.State) → R.view o.after ≡ still next → next.taken + length s ≤ limit → HasRun M R limit o.after s) → HasRun M R limit r (b ∷ s)
+          → ((next : At M.State) → R.view o.after ≡ still next → next.taken + length s ≤ limit → HasRun M R limit o.after s) → HasRun M R limit r
+          (b ∷ s)
       by (stops answer place g) e later =
           let f = feed_least M limit at b (omega arith) (stops answer place g) e in
           (_, _, _, leaves r (b ∷ []) s text_room errors_room refl (ap is_still (after ∙ ap (λ (o : Comes M). o.after) f)))
       by (takes says g next) e later =
           let one = feed_taken M limit at b (omega arith) e in
           let (h, answer, place, run) = later next (after ∙ one.1) (omega (arith, byte_counts M at b e)) in
-          let count : o.taken ≡ 1 = ap (λ (x : Outcome M.Out Rec). x.taken) (feed_is M sizes proper R faithful r is (b ∷ []) text_room errors_room) ∙ one.0 in (
+          let count : o.taken ≡ 1 = ap (λ (x : Outcome M.Out Rec). x.taken)
+          (feed_is M sizes proper R faithful r is (b ∷ []) text_room errors_room) ∙ one.0 in (
             _,
             _,
             _,

@@ -48,7 +48,8 @@ module _ (M : Machine) (laws : Joins M) where
       here : p + length part - length part ≡ p
       here = omega arith
   char_rest st p c part (b ∷ d ∷ rest) some e {g} {next} r =
-      subst (λ (x : M.Out). Goes M (at_by st part (p + length part)) (b ∷ d ∷ rest) x (at_by next [] (p + length (part ++ b ∷ d ∷ rest)))) (laws.first g)
+      subst (λ (x : M.Out). Goes M (at_by st part (p + length part)) (b ∷ d ∷ rest) x (at_by next [] (p + length (part ++ b ∷ d ∷ rest))))
+      (laws.first g)
       (one (rw begun (ap (λ (n : ℕ). takes done M.none (at_by st (part ++ b ∷ []) n)) (omega (arith, long))))
       (subst (λ (l : List ℕ). Goes M (at_by st (part ++ b ∷ []) (p + length (part ++ b ∷ []))) (d ∷ rest) g (at_by next [] (p + length l))) same
       (char_rest st p c (part ++ b ∷ []) (d ∷ rest) (omega arith) (rw same e) (rw same r))))

@@ -58,7 +58,8 @@ module _ (M : Machine) {Good : M.State → (place taken : ℕ) → Type 0} (size
           let own = at.part ++ b ∷ [] in
           let long = length-append at.part (b ∷ []) in
           lift_proper (place_of at + length own) (suc at.taken) (omega (arith, h.there)) (M.reads at.st (place_of at) c own)
-          (proper.char_proper at.st (place_of at) at.taken c own h.good (omega (arith, h.there)) (e ∙ ap (Char c) (completes_own at.part b c n h.begun e)))
+          (proper.char_proper at.st (place_of at) at.taken c own h.good (omega (arith, h.there))
+          (e ∙ ap (Char c) (completes_own at.part b c n h.begun e)))
       by at b h (Incomplete n) e =
           let long = length-append at.part (b ∷ []) in (
             none_small,

@@ -148,7 +148,8 @@ module _ (M : Machine) (laws : Joins M) (sizes : Sizes M) where
             subst (λ (x : M.Out).
             walk M text numbers at (b ∷ s ++ left) ≡ ahead M (length (b ∷ s)) x (walk M (text - M.text x) (numbers - M.numbers x) here left))
             (ap (λ (o : Comes M). o.gives) f)
-            (left_join (λ t n. walk M text numbers at (b ∷ s ++ left) ≡ ahead M (length (b ∷ s)) (M.join g o.gives) (walk M t n here left)) text numbers g
+            (left_join (λ t n. walk M text numbers at (b ∷ s ++ left) ≡ ahead M (length (b ∷ s)) (M.join g o.gives) (walk M t n here left)) text
+            numbers g
             o.gives
             (walk_goes_on M text numbers at b (s ++ left) room says g next e zero ∙ ap (onward M g) (later o.gives here was)
             ∙ ahead_on (length s) g o.gives _));

@@ -58,7 +58,8 @@ module _ {input out errors : List ℕ} where
 
   module _ {r : ℕ} {out' errors' : List ℕ} (rooms : Roomy out errors) where
     -- Else what is called for.
-    report_written : Fills (for_input (line (bytes "bad context")) (line (bytes "too long")) source_report input) (for_input [] [] source_errors input)
+    report_written : Fills (for_input (line (bytes "bad context")) (line (bytes "too long")) source_report input)
+        (for_input [] [] source_errors input)
         out errors r out' errors' → Reports input out errors r out' errors'
     report_written f =
         let e : roomy (length out) (length errors) ≡ true =

@@ -29,7 +29,8 @@ source-front context s =
     ⊎_elim
     (λ (h : 4096 < length s). let k : 4096 < length (take 4097 s) = simp length-take (omega arith) in
     rw (lt-ltb 4096 (length (take 4097 s)) k, lt-ltb 4096 (length s) h))
-    (λ (h : length s ≤ 4096). ap (for_source (line (bytes "too long")) source_report context) (take_all 4097 s (omega arith))) (below? 4096 (length s))
+    (λ (h : length s ≤ 4096). ap (for_source (line (bytes "too long")) source_report context) (take_all 4097 s (omega arith)))
+    (below? 4096 (length s))
 
 -- The first bytes after the start are the first of all that stands after it.
 drop-front : (s : List ℕ) → drop 2 (take 4099 s) ≡ take 4097 (drop 2 s)

@@ -29,7 +29,8 @@ skip_drops f none one (suc k) [] = none (suc k)
 skip_drops f none one (suc k) (b ∷ s) = one k b s ∙ skip_drops f none one k s
 
 -- The pieces after k bytes are those of the rest.
-pub pieces_skip : (names : List Name) (context : Context) (k : ℕ) (s : List ℕ) → pieces_from names context k s ≡ pieces_from names context 0 (drop k s)
+pub pieces_skip : (names : List Name) (context : Context) (k : ℕ) (s : List ℕ)
+    → pieces_from names context k s ≡ pieces_from names context 0 (drop k s)
 unfolding pieces_from
 pieces_skip names context = skip_drops (pieces_from names context) (λ k. refl) (λ k b s. refl)
 

@@ -98,7 +98,8 @@ module _ (context : Context) (c : ℕ) (some : c ≡ 0 → ⊥) where
   calls_none e = rw (ne_eqb c 0 some, ne_eqb c (end_byte context) e)
 
 -- ASCII but NUL and the end calls for nothing.
-pub ascii-calls : (context : Context) (b : ℕ) → between 0x1 0x7F b && not (eqb b (end_byte context)) ≡ true → (b < 0x80) × (calls_for context b ≡ done)
+pub ascii-calls : (context : Context) (b : ℕ) → between 0x1 0x7F b && not (eqb b (end_byte context)) ≡ true
+    → (b < 0x80) × (calls_for context b ≡ done)
 ascii-calls context b e =
     let w = and_true (between 0x1 0x7F b) (not (eqb b (end_byte context))) e in
     let h = between_true 0x1 0x7F b w.0 in

@@ -31,7 +31,8 @@ report_source-requires c =
 
 pub returns-then-starts_with : goal.returns-then-starts_with
 returns-then-starts_with c =
-    report_text (record { bytes_there = c.if-out-lt-REPORT_ROOM.false; numbers_there = c.if-errors-lt-NUMBERS_ROOM.false }) (sym c.starts_with.ensures ∙ c.if-starts_with.true)
+    report_text (record { bytes_there = c.if-out-lt-REPORT_ROOM.false; numbers_there = c.if-errors-lt-NUMBERS_ROOM.false })
+    (sym c.starts_with.ensures ∙ c.if-starts_with.true)
     (rw (rest_from c.args.input.now 2) at c.report_source.ensures)
 
 pub slice_bounds-report_source-count-then-starts_with-2 : goal.slice_bounds-report_source-count-then-starts_with-2
@@ -48,12 +49,14 @@ report_source-requires-then-starts_with-2 c =
 
 pub returns-then-starts_with-2 : goal.returns-then-starts_with-2
 returns-then-starts_with-2 c =
-    report_attribute (record { bytes_there = c.if-out-lt-REPORT_ROOM.false; numbers_there = c.if-errors-lt-NUMBERS_ROOM.false }) (sym c.starts_with.ensures ∙ c.if-starts_with.false)
+    report_attribute (record { bytes_there = c.if-out-lt-REPORT_ROOM.false; numbers_there = c.if-errors-lt-NUMBERS_ROOM.false })
+    (sym c.starts_with.ensures ∙ c.if-starts_with.false)
     (sym c.starts_with-2.ensures ∙ c.if-starts_with-2.true) (rw (rest_from c.args.input.now 2) at c.report_source-then-starts_with-2.ensures)
 
 pub returns : goal.returns
 unfolding computing_parts
 returns c =
     let p = copy_fits {from = line (bytes "bad context")} (omega (arith, c.if-out-lt-REPORT_ROOM.false)) c.copy.ensures in
-    report_bad (record { bytes_there = c.if-out-lt-REPORT_ROOM.false; numbers_there = c.if-errors-lt-NUMBERS_ROOM.false }) (sym c.starts_with.ensures ∙ c.if-starts_with.false)
+    report_bad (record { bytes_there = c.if-out-lt-REPORT_ROOM.false; numbers_there = c.if-errors-lt-NUMBERS_ROOM.false })
+    (sym c.starts_with.ensures ∙ c.if-starts_with.false)
     (sym c.starts_with-2.ensures ∙ c.if-starts_with-2.false) p refl

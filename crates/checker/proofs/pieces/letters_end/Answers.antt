@@ -13,7 +13,8 @@ pub loop-at-init : goal.loop-at-init
 loop-at-init c = skipping_all c.requires
 
 -- What the test says of the byte.
-tested : (s : List ℕ) (at : ℕ) {seen : ℕ} {t : Bool} → at < length s → seen ≡ get_or s at 256 → t ≡ alphanumeric seen → alphanumeric (get_or s at 0) ≡ t
+tested : (s : List ℕ) (at : ℕ) {seen : ℕ} {t : Bool} → at < length s → seen ≡ get_or s at 256 → t ≡ alphanumeric seen
+    → alphanumeric (get_or s at 0) ≡ t
 tested s at there is e = sym (e ∙ ap alphanumeric (is ∙ peek_there s at 256 0 there))
 
 pub returns-then-not-letter_or_digit : goal.returns-then-not-letter_or_digit

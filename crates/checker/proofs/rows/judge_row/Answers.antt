@@ -96,12 +96,14 @@ overflow_mul-k c =
 pub returns-then-met_errors-e : goal.returns-then-met_errors-e
 returns-then-met_errors-e c =
     judged_errors_count (λ z. omega arith) (omega (arith, c.if-s-at.false)) c.meet_pieces-joint.ensures
-    (omega (arith, c.if-joint-at.false)) (not-false _ c.if-not-met_text.false) (omega (arith, c.if-met_text-t.false)) (not-false _ c.if-not-met_errors.false)
+    (omega (arith, c.if-joint-at.false)) (not-false _ c.if-not-met_text.false) (omega (arith, c.if-met_text-t.false))
+    (not-false _ c.if-not-met_errors.false)
     (λ z. omega (arith, c.if-met_errors-e.true))
     c.wrong_for-then-met_errors-e.ensures
 
 pub returns : goal.returns
 returns c =
     judged_right (λ z. omega arith) (omega (arith, c.if-s-at.false)) c.meet_pieces-joint.ensures (omega (arith, c.if-joint-at.false))
-    (not-false _ c.if-not-met_text.false) (omega (arith, c.if-met_text-t.false)) (not-false _ c.if-not-met_errors.false) (omega (arith, c.if-met_errors-e.false))
+    (not-false _ c.if-not-met_text.false) (omega (arith, c.if-met_text-t.false)) (not-false _ c.if-not-met_errors.false)
+    (omega (arith, c.if-met_errors-e.false))
     c.requires.0

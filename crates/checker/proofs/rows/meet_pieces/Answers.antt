@@ -1,6 +1,4 @@
-use Prim.Native.Nat.{◌+◌, ◌≤◌, ◌<◌}
 use native.Mathlib.Omega.{arith}
-use lib.ListN.{length}
 use Rattle.checker.specs.Pieces.{piece_of}
 use Rattle.checker.proofs.Walking.{run_over, next_there, next_on, walked}
 use Rattle.checker.proofs.rows.meet_pieces.Goals as goal

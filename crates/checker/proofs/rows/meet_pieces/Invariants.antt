@@ -10,7 +10,8 @@ use Rattle.checker.proofs.rows.meet_pieces.Given as goal
 abbrev pub invariant-loop-at : goal.invariant-loop-at
 invariant-loop-at l =
     Walking (records l.table) l.context l.s l.end l.text (lent l.errors l.error_bytes)
-    (Joins (pieces (records l.table) l.context (drop l.from l.s)) l.from (l.end - l.from) l.text (so_far l.t) (lent l.errors l.error_bytes) (so_far l.e)) l.at
+    (Joins (pieces (records l.table) l.context (drop l.from l.s)) l.from (l.end - l.from) l.text (so_far l.t) (lent l.errors l.error_bytes)
+    (so_far l.e)) l.at
     (record { right = l.right; at = l.u }) (record { right = l.sound; at = l.v })
 
 abbrev pub decreases-loop-at : goal.decreases-loop-at

@@ -1,8 +1,6 @@
-use Prim.Native.Nat.{◌-◌}
 use native.Mathlib.Omega.{arith}
-use lib.ListN.{length, length-take}
+use lib.ListN.{length-take}
 use Rattle.rooms.proofs.Fits.{copy_fits}
-use Rattle.decoder.specs.Skims.{PlainRun}
 use Rattle.decoder.proofs.SkimLaws.{run-plain, run_length}
 use Rattle.decoder.proofs.skimming.copy_run.Goals as goal
 

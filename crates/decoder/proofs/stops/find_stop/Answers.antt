@@ -1,9 +1,8 @@
 use native.Mathlib.Omega.{arith}
 use Rattle.standard.specs.Contexts.{end_byte}
 use Rattle.standard.specs.Answers.{done}
-use Rattle.standard.specs.Reading.{calls_for}
 use Rattle.standard.proofs.Stops.{ascii-calls}
-use Rattle.standard.proofs.Looking.{Looking, looking_start, looking_run, looking_end}
+use Rattle.standard.proofs.Looking.{looking_start, looking_run, looking_end}
 use Rattle.standard.proofs.Stopping.{stop_is, turn_other, turn_called, turn_none, turn_size}
 use Rattle.runs.specs.Kinds.{ordinary}
 use Rattle.decoder.proofs.stops.find_stop.Goals as goal

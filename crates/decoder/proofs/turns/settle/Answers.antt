@@ -1,11 +1,10 @@
 use mathlib.Core.Path.{◌≡◌, sym, ◌∙◌, ap}
-use mathlib.Core.List.{[], ◌∷◌, ◌++◌}
+use mathlib.Core.List.{[]}
 use native.Mathlib.Omega.{arith}
 use Rattle.standard.specs.declared.names.Found.{Found}
 use Rattle.standard.specs.Names.{longest, begins}
 use Rattle.standard.specs.NameList.{builtin}
 use Rattle.standard.specs.Pieces.{named_by}
-use Rattle.decoder.specs.Pieces.{piece_of}
 use Rattle.decoder.specs.Turns.{ascii_of, name_of}
 use Rattle.decoder.proofs.Tidy.{settled}
 use Rattle.standard.proofs.FrontPiece.{found-there}

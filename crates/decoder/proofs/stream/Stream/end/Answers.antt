@@ -5,7 +5,7 @@ use lib.ListN.{length}
 use lib.Seq.{length-take-le}
 use borrow.Author.Rules.{rules}
 use Rattle.decoder.specs.Stream.{fed_of}
-use Rattle.decoder.proofs.Returns.{opened, same_state, is_fit, NotRefused, not_refused, end_refused, end_inside, end_done, feeds-nothing, wrote-feeds}
+use Rattle.decoder.proofs.Returns.{opened, same_state, is_fit, not_refused, end_refused, end_inside, end_done, feeds-nothing, wrote-feeds}
 use Rattle.decoder.proofs.stream.Stream.end.Goals as goal
 
 pub returns-then-answer-ne0 : goal.returns-then-answer-ne0

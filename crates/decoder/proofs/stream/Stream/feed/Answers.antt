@@ -1,13 +1,11 @@
 use mathlib.Core.Path.{refl}
 use native.Mathlib.Omega.{arith}
-use lib.ListN.{length}
 use borrow.Author.Rules.{rules}
 use Rattle.decoder.proofs.Returns.{
   opened,
   cleared_open,
   cleared_taken,
   cleared_walk,
-  NotRefused,
   not_refused,
   feed_refused,
   feed_walks,
