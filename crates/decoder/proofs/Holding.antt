@@ -47,8 +47,8 @@ use Rattle.decoder.proofs.Means.{
   no_hash,
   named-size,
   num_mean_by,
-  numMean,
-  bogusMean,
+  num_mean,
+  bogus_mean,
 }
 
 module _ (names : List Name) (context : Context) where
@@ -58,8 +58,8 @@ module _ (names : List Name) (context : Context) where
 
   -- A number goes on with a digit.
   pub number_more : (q base value p c : ℕ) (t : List ℕ) → is_digit base c ≡ true
-      → numMean names context q base value p (c ∷ t) ≡ numMean names context q base (add_digit base value c) (p + 1) t
-  unfolding numMean front number_from
+      → num_mean names context q base value p (c ∷ t) ≡ num_mean names context q base (add_digit base value c) (p + 1) t
+  unfolding num_mean front number_from
   number_more q base value p c t e =
       rw e
       (ap (λ (m : Meaning). reading_at q (numbered 0 m closed)
@@ -77,27 +77,27 @@ module _ (names : List Name) (context : Context) where
 
   -- A number ends where no digit is next.
   pub number_end : (q base value p : ℕ) (s : List ℕ) → next_passes (is_digit base) s ≡ false
-      → numMean names context q base value p s ≡ num_mean_by names context q value p 0 (next (code ";") s) s
-  unfolding numMean number_from
+      → num_mean names context q base value p s ≡ num_mean_by names context q value p 0 (next (code ";") s) s
+  unfolding num_mean number_from
   number_end q base value p s e = rw (front_empty (is_digit base) s e)
 
   -- An unknown name goes on with a letter or digit.
   pub bogus_more : (q p c : ℕ) (t : List ℕ) → alphanumeric c ≡ true
-      → bogusMean names context q p (c ∷ t) ≡ text_only (c ∷ []) ⊕ bogusMean names context q (p + 1) t
-  unfolding bogusMean unknown_rest front
+      → bogus_mean names context q p (c ∷ t) ≡ text_only (c ∷ []) ⊕ bogus_mean names context q (p + 1) t
+  unfolding bogus_mean unknown_rest front
   bogus_more q p c t e =
       rw e (ap (λ (r : Reading). unknown q (unknown_rest t) ⊕ r) (read_plains names context p (c ∷ []) t (reference-plain c (rw e), tt)))
 
   -- It is closed by `;`.
   pub bogus_closed : (q p : ℕ) (t : List ℕ)
-      → bogusMean names context q p (code ";" ∷ t) ≡ reading (code ";" ∷ []) (error unknown_named_character_reference q ∷ []) ⊕ whole (p + 1) t
-  unfolding bogusMean unknown_rest front placed
+      → bogus_mean names context q p (code ";" ∷ t) ≡ reading (code ";" ∷ []) (error unknown_named_character_reference q ∷ []) ⊕ whole (p + 1) t
+  unfolding bogus_mean unknown_rest front placed
   bogus_closed q p t =
       ap (λ (r : Reading). unknown q true ⊕ r) (read_plains names context p (code ";" ∷ []) t (reference-plain (code ";") refl, tt))
 
   -- It ends where neither is next.
-  pub bogus_end : (q p : ℕ) (s : List ℕ) → next_passes alphanumeric s ≡ false → next (code ";") s ≡ false → bogusMean names context q p s ≡ whole p s
-  unfolding bogusMean unknown_rest placed
+  pub bogus_end : (q p : ℕ) (s : List ℕ) → next_passes alphanumeric s ≡ false → next (code ";") s ≡ false → bogus_mean names context q p s ≡ whole p s
+  unfolding bogus_mean unknown_rest placed
   bogus_end q p s e f = rw (front_empty alphanumeric s e) (rw f)
 
   -- Without a digit `&#` and `&#x` stand for themselves.
@@ -154,8 +154,8 @@ module _ (names : List Name) (context : Context) where
 
   -- Letters and digits in which no name is found stand for themselves, and their error waits.
   pub none_read : (q : ℕ) (h s : List ℕ) → Alphanumerics h → next_passes alphanumeric (h ++ s) ≡ true → (longest names (h ++ s)).len ≡ 0
-      → whole q (code "&" ∷ h ++ s) ≡ text_only (code "&" ∷ h) ⊕ bogusMean names context q (suc (q + length h)) s
-  unfolding bogusMean placed
+      → whole q (code "&" ∷ h ++ s) ≡ text_only (code "&" ∷ h) ⊕ bogus_mean names context q (suc (q + length h)) s
+  unfolding bogus_mean placed
   none_read q h s al e f =
       read_held names context q h s (ampersand (if unknown_rest s then unknown_named_character_reference else no_error)) (plain-held h al)
       (by_name (h ++ s) (no_hash (h ++ s) e) ∙ by_none (longest names (h ++ s)) (h ++ s) f

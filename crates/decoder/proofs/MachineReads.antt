@@ -43,7 +43,7 @@ use Rattle.decoder.proofs.Running.{step_read, run_from, run}
 use Rattle.decoder.proofs.Looks.{looks, reference-plain, x_plain}
 use Rattle.decoder.proofs.Tidy.{Tidy, Alphanumerics, next-held}
 use Rattle.decoder.proofs.Unfolding.{read_from, read_nothing}
-use Rattle.decoder.proofs.Means.{Valid, plain-held, no_hash, Mean, crMean}
+use Rattle.decoder.proofs.Means.{Valid, plain-held, no_hash, Mean, cr_mean}
 use Rattle.decoder.proofs.Holding.{number_end, bogus_end, no_digits_read, decimal_none, hexadecimal_none, ampersand_read, none_read, found_read}
 use Rattle.decoder.proofs.Simulates.{step_ok}
 
@@ -82,7 +82,7 @@ module _ (names : List Name) (context : Context) (tidy : Tidy names) where
 
   -- At the end what is held is read as the last pieces.
   end_ok : (st : St) (p : ℕ) → Valid p st → Mean names context st p [] ≡ finish names context st
-  unfolding Mean Valid finish crMean
+  unfolding Mean Valid finish cr_mean
   end_ok Data p v = read_nothing names context p
   end_ok AfterCr p v = read_nothing names context (p + 0)
   end_ok (Begin q) p v = ampersand_read names context q [] tidy refl refl ∙ ends (text_only (code "&" ∷ [])) (suc q)

@@ -111,37 +111,37 @@ module _ (names : List Name) (context : Context) where
   whole = read_from names context
 
   -- An LF after a CR is passed over.
-  unfoldable pub crMean : ℕ → List ℕ → Reading
-  crMean p s = let k : ℕ = one_if (next (code "\n") s) in whole (p + k) (drop k s)
+  unfoldable pub cr_mean : ℕ → List ℕ → Reading
+  cr_mean p s = let k : ℕ = one_if (next (code "\n") s) in whole (p + k) (drop k s)
 
   -- A number, n digits more of which stand there, and whether `;` is next after them.
   abbrev pub num_mean_by : (q value p n : ℕ) → Bool → List ℕ → Reading
   num_mean_by q value p n closed s = finish_numeric q value closed ⊕ whole (p + (n + one_if closed)) (drop (n + one_if closed) s)
 
   -- A number with the digits that stand there.
-  unfoldable pub numMean : (q base value p : ℕ) → List ℕ → Reading
-  numMean q base value p s =
+  unfoldable pub num_mean : (q base value p : ℕ) → List ℕ → Reading
+  num_mean q base value p s =
       let ds : List ℕ = front (is_digit base) s in
       num_mean_by q (number_from base value ds) p (length ds) (next (code ";") (drop (length ds) s)) s
 
   -- The error of an unknown name, if it is one.
-  unfoldable pub bogusMean : (q p : ℕ) → List ℕ → Reading
-  bogusMean q p s = unknown q (unknown_rest s) ⊕ whole p s
+  unfoldable pub bogus_mean : (q p : ℕ) → List ℕ → Reading
+  bogus_mean q p s = unknown q (unknown_rest s) ⊕ whole p s
 
   -- What is read from a state on, with s still to come at place p.
   unfoldable pub Mean : St → ℕ → List ℕ → Reading
   Mean Data p s = whole p s
-  Mean AfterCr p s = crMean p s
+  Mean AfterCr p s = cr_mean p s
   Mean (Begin q) p s = whole q (code "&" ∷ s)
   Mean (Octothorpe q) p s = whole q (code "&" ∷ code "#" ∷ s)
   Mean (HexBegin q letter) p s = whole q (code "&" ∷ code "#" ∷ letter ∷ s)
-  Mean (Numeric q intro base value) p s = numMean q base value p s
+  Mean (Numeric q intro base value) p s = num_mean q base value p s
   Mean (Named q held) p s = whole q (code "&" ∷ held ++ s)
-  Mean (BogusName q) p s = bogusMean q p s
+  Mean (BogusName q) p s = bogus_mean q p s
 
   -- A CR is read as an LF.
-  pub cr_read : (p : ℕ) (s : List ℕ) → whole p (code "\r" ∷ s) ≡ text_only (code "\n" ∷ []) ⊕ crMean (p + 1) s
-  unfolding piece_at crMean placed
+  pub cr_read : (p : ℕ) (s : List ℕ) → whole p (code "\r" ∷ s) ≡ text_only (code "\n" ∷ []) ⊕ cr_mean (p + 1) s
+  unfolding piece_at cr_mean placed
   cr_read p s = read_piece names context p (code "\r" ∷ s) (line (next (code "\n") s)) (omega arith) refl ∙ go (next (code "\n") s)
     where
       line : Bool → Piece
@@ -153,15 +153,15 @@ module _ (names : List Name) (context : Context) where
       go false = ap (λ (n : ℕ). text_only (code "\n" ∷ []) ⊕ whole n s) (let e : p + 1 ≡ p + 1 + 0 = omega arith in e)
 
   -- No LF is passed over where none is next.
-  pub cr_none : (p : ℕ) (s : List ℕ) → next (code "\n") s ≡ false → crMean p s ≡ whole p s
-  unfolding crMean
+  pub cr_none : (p : ℕ) (s : List ℕ) → next (code "\n") s ≡ false → cr_mean p s ≡ whole p s
+  unfolding cr_mean
   cr_none p s e = rw e (ap (λ (n : ℕ). whole n s) (let i : p + 0 ≡ p = omega arith in i))
 
   -- The first digit after `&#` or `&#x`, which are intro bytes.
   pub digits_read : (q base intro c : ℕ) (l t : List ℕ) → piece_at names context (code "&" ∷ l) ≡ digits_at base intro (c ∷ t)
       → drop intro (code "&" ∷ l) ≡ c ∷ t → is_digit base c ≡ true
-      → whole q (code "&" ∷ l) ≡ numMean q base (digit_of c) (suc (q + intro)) t
-  unfolding digits_at digits_then numMean front number_from
+      → whole q (code "&" ∷ l) ≡ num_mean q base (digit_of c) (suc (q + intro)) t
+  unfolding digits_at digits_then num_mean front number_from
   digits_read q base intro c l t is there e =
       read_piece names context q (code "&" ∷ l) (number_piece (next (code ";") (drop n t))) (omega arith)
       (is ∙ rw e (ap (λ (v : ℕ). numbered (intro + suc n) (meaning_of (number_from base v ds)) (next (code ";") (drop n t)))

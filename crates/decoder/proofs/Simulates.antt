@@ -63,7 +63,7 @@ use Rattle.decoder.proofs.Looks.{
 }
 use Rattle.decoder.proofs.Tidy.{Tidy, Alphanumerics, next-held, settled, goes_on}
 use Rattle.decoder.proofs.Unfolding.{all_append, read_from, read_character}
-use Rattle.decoder.proofs.Means.{Valid, plain-held, no_hash, named-near, crMean, numMean, bogusMean, Mean, cr_read, cr_none, digits_read}
+use Rattle.decoder.proofs.Means.{Valid, plain-held, no_hash, named-near, cr_mean, num_mean, bogus_mean, Mean, cr_read, cr_none, digits_read}
 use Rattle.decoder.proofs.Holding.{
   number_more,
   number_end,
@@ -133,27 +133,27 @@ module _ (names : List Name) (context : Context) where
 
   -- In a name that is no name.
   bogus_ok : (q p : ℕ) {s : List ℕ} {c n : ℕ} → Looks s c n
-      → Ok names context p s n (bogusMean names context q p s) (step_bogus q p c (take n s))
+      → Ok names context p s n (bogus_mean names context q p s) (step_bogus q p c (take n s))
   unfolding step_bogus Mean Valid
   bogus_ok q p {s} {c} {n} look = go (alphanumeric c) (eqb c (code ";")) refl refl
     where
       go : (t u : Bool) → alphanumeric c ≡ t → eqb c (code ";") ≡ u
-          → Ok names context p s n (bogusMean names context q p s)
+          → Ok names context p s n (bogus_mean names context q p s)
           (if t then to (text_only (take n s)) (BogusName q)
           else if u then to (reading (take n s) (error unknown_named_character_reference q ∷ [])) Data
           else step_data p c (take n s))
       go true u e f =
           looks_own alphanumeric alphanumeric-ascii
-          (λ s n. Ok names context p s n (bogusMean names context q p s) (to (text_only (take n s)) (BogusName q))) look e
+          (λ s n. Ok names context p s n (bogus_mean names context q p s) (to (text_only (take n s)) (BogusName q))) look e
           (λ t. record { same = bogus_more names context q p c t e; valid = tt })
       go false true e f =
           looks_own (is (code ";")) (equal_ascii (code ";") (omega arith))
-          (λ s n. Ok names context p s n (bogusMean names context q p s)
+          (λ s n. Ok names context p s n (bogus_mean names context q p s)
           (to (reading (take n s) (error unknown_named_character_reference q ∷ [])) Data)) look f
           (λ t. record {
             same =
                 subst
-                (λ (x : ℕ). bogusMean names context q p (x ∷ t)
+                (λ (x : ℕ). bogus_mean names context q p (x ∷ t)
                 ≡ reading (x ∷ []) (error unknown_named_character_reference q ∷ []) ⊕ whole (p + 1) t)
                 (sym (eqb-true c (code ";") f)) (bogus_closed names context q p t);
             valid = tt;
@@ -166,15 +166,15 @@ module _ (names : List Name) (context : Context) where
 
   -- After a CR.
   cr_ok : (p : ℕ) {s : List ℕ} {c n : ℕ} → Looks s c n
-      → Ok names context p s n (crMean names context p s) (step names context AfterCr p c (take n s))
-  unfolding step crMean Mean Valid
+      → Ok names context p s n (cr_mean names context p s) (step names context AfterCr p c (take n s))
+  unfolding step cr_mean Mean Valid
   cr_ok p {s} {c} {n} look = go (eqb c (code "\n")) refl
     where
       go : (t : Bool) → eqb c (code "\n") ≡ t
-          → Ok names context p s n (crMean names context p s) (if t then to nothing Data else step_data p c (take n s))
+          → Ok names context p s n (cr_mean names context p s) (if t then to nothing Data else step_data p c (take n s))
       go true e =
           looks_own (is (code "\n")) (equal_ascii (code "\n") (omega arith))
-          (λ s n. Ok names context p s n (crMean names context p s) (to nothing Data)) look e
+          (λ s n. Ok names context p s n (cr_mean names context p s) (to nothing Data)) look e
           (λ t. record { same = rw e; valid = tt })
       go false e = by (cr_none names context p s (next-same (code "\n") (omega arith) look ∙ e)) (data_ok p look)
 
@@ -184,22 +184,22 @@ module _ (names : List Name) (context : Context) where
 
   -- In a number.
   number_ok : (q : ℕ) (intro : List ℕ) (base value p : ℕ) {s : List ℕ} {c n : ℕ} → base ≤ 16 → Looks s c n
-      → Ok names context p s n (numMean names context q base value p s) (step names context (Numeric q intro base value) p c (take n s))
+      → Ok names context p s n (num_mean names context q base value p s) (step names context (Numeric q intro base value) p c (take n s))
   unfolding step Mean Valid
   number_ok q intro base value p {s} {c} {n} few look = go (is_digit base c) (eqb c (code ";")) refl refl
     where
       go : (t u : Bool) → is_digit base c ≡ t → eqb c (code ";") ≡ u
-          → Ok names context p s n (numMean names context q base value p s)
+          → Ok names context p s n (num_mean names context q base value p s)
           (if t then to nothing (Numeric q intro base (add_digit base value c))
           else if u then to (finish_numeric q value true) Data
           else step_after (finish_numeric q value false) (step_data p c (take n s)))
       go true u e f =
           looks_own (is_digit base) (digit-ascii base few)
-          (λ s n. Ok names context p s n (numMean names context q base value p s) (to nothing (Numeric q intro base (add_digit base value c)))) look e
+          (λ s n. Ok names context p s n (num_mean names context q base value p s) (to nothing (Numeric q intro base (add_digit base value c)))) look e
           (λ t. record { same = number_more names context q base value p c t e; valid = few })
       go false true e f =
           looks_own (is (code ";")) (equal_ascii (code ";") (omega arith))
-          (λ s n. Ok names context p s n (numMean names context q base value p s) (to (finish_numeric q value true) Data)) look f
+          (λ s n. Ok names context p s n (num_mean names context q base value p s) (to (finish_numeric q value true) Data)) look f
           (λ t. record { same = number_end names context q base value p (c ∷ t) e ∙ rw f; valid = tt })
       go false false e f =
           before (finish_numeric q value false)
@@ -229,7 +229,7 @@ module _ (names : List Name) (context : Context) where
           (λ t. record {
             same =
                 digits_read names context q 10 2 c (code "#" ∷ c ∷ t) t (decimal_some names context c t e) refl f
-                ∙ ap (λ (n : ℕ). numMean names context q 10 (digit_of c) n t) (let i : suc (q + 2) ≡ p + 1 = omega arith in i);
+                ∙ ap (λ (n : ℕ). num_mean names context q 10 (digit_of c) n t) (let i : suc (q + 2) ≡ p + 1 = omega arith in i);
             valid = omega arith;
           })
       go false false e f =
@@ -256,7 +256,7 @@ module _ (names : List Name) (context : Context) where
           (λ t. record {
             same =
                 digits_read names context q 16 3 c (code "#" ∷ letter ∷ c ∷ t) t (hexadecimal_some names context letter (c ∷ t) x) refl e
-                ∙ ap (λ (n : ℕ). numMean names context q 16 (digit_of c) n t) (let i : suc (q + 3) ≡ p + 1 = omega arith in i);
+                ∙ ap (λ (n : ℕ). num_mean names context q 16 (digit_of c) n t) (let i : suc (q + 3) ≡ p + 1 = omega arith in i);
             valid = omega arith;
           })
       go false e =
@@ -328,7 +328,7 @@ module _ (names : List Name) (context : Context) where
       go true e =
           before (text_only (code "&" ∷ h))
           (none_read names context q h s al first (ap (λ (f : Found). f.len) found ∙ eqb-true (longest names h).len 0 e)
-          ∙ ap (λ (n : ℕ). text_only (code "&" ∷ h) ⊕ bogusMean names context q n s) (sym v))
+          ∙ ap (λ (n : ℕ). text_only (code "&" ∷ h) ⊕ bogus_mean names context q n s) (sym v))
           (bogus_ok q p look)
       go false e =
           before (finish_named context q (longest names h) h (take n s))

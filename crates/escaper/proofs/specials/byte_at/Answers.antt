@@ -1,4 +1,4 @@
--- byte_at is getD: past the end it is 0.
+-- byte_at is get_or: past the end it is 0.
 use mathlib.Core.Path.{sym}
 use lib.ListN.{get_or-eq_default}
 use Rattle.escaper.proofs.specials.byte_at.Goals as goal
