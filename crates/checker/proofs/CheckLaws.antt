@@ -1,7 +1,7 @@
 -- The whole answer, one law for each way that the check returns.
 use Rattle.std.specs.Prelude.{if◌then◌else◌}
 use Prim.Native.Nat.{ℕ, ◌%◌, ◌≤◌, ◌<◌}
-use mathlib.Core.Path.{◌≡◌, ◌∙◌, ap}
+use mathlib.Core.Path.{◌≡◌, refl, ◌∙◌, ap}
 use mathlib.Core.List.{List}
 use mathlib.Core.Bool.{true, false, not, ◌||◌, ◌&&◌}
 use mathlib.Core.Logic.{⊎_elim}
@@ -17,16 +17,10 @@ use Rattle.standard.specs.Names.{table_of, records}
 use Rattle.standard.specs.Reading.{stop_of, covered, readable}
 use Rattle.standard.proofs.BuiltinNames.{table-read}
 use Rattle.checker.specs.declared.checking.Checked.{Checked}
-use Rattle.checker.specs.declared.verdicts.Verdict as code
+use Rattle.checker.specs.declared.stops.Fault.{Fault}
+use Rattle.checker.specs.declared.stops.Fault.TheVariants.{IllFormed, Nul}
+use Rattle.checker.specs.Meeting.{stop_at}
 use Rattle.checker.specs.Transcript.{right, Verdict, verdict, verdict_on, checked, checked_of, checked_bytes}
-use Rattle.checker.specs.Meeting.{Verdicts}
-
--- The code's verdict, as the answer that has it.
-abbrev answered : code.Verdict → Checked
-answered r = record { answer = done; verdict = r.reason; row = r.row; place = 0 }
-
-answered-is : {v : Verdict} {r : code.Verdict} → Verdicts v r → answered r ≡ checked done v 0
-answered-is w = λ i. record { answer = done; verdict = w.reason_is i; row = w.row_is i; place = 0 }
 
 -- The order of a check's answers: the source is too long, rows and errors are not both whole, and the rest where they are.
 pub record InOrder (m n : ℕ) (source rows errors : List ℕ) (rest all : Checked) : Type 0 where
@@ -45,6 +39,11 @@ in_order m n source rows errors rest = record {
   whole = λ s r e. rw (le-ltb longest_slice (length source) s, eq-eqb (length rows % m) 0 r, eq-eqb (length errors % n) 0 e);
 }
 
+-- A source with a fault is not read.
+unread : (fault : Fault) → eqb (stop_at fault).answer done || eqb (stop_at fault).answer context_end ≡ false
+unread (IllFormed place) = refl
+unread (Nul place) = refl
+
 module _ (context : Context) (source rows text errors : List ℕ) where
   -- Rows in threes and errors in pairs are whole.
   pub check_order : let stop = stop_of context source in InOrder 3 2 source rows errors
@@ -60,17 +59,16 @@ module _ (context : Context) (source rows text errors : List ℕ) where
   unfolding checked_bytes
   bytes_order = in_order 4 4 source rows errors _
 
-  module _ (short : length source ≤ longest_slice) (threes : length rows % 3 ≡ 0) (pairs : length errors % 2 ≡ 0) {answer place : ℕ}
-      (answer_is : answer ≡ (stop_of context source).answer) (place_is : place ≡ (stop_of context source).place) where
+  module _ (short : length source ≤ longest_slice) (threes : length rows % 3 ≡ 0) (pairs : length errors % 2 ≡ 0) where
     -- The source is not readable.
-    pub check_fault : eqb answer done || eqb answer context_end ≡ false
-        → checked answer (verdict right 0) place ≡ checked_of builtin context source rows text errors
-    check_fault f = rw (← check_order.whole short threes pairs, ← answer_is, ← place_is, f)
+    pub check_fault : (fault : Fault) → stop_of context source ≡ stop_at fault
+        → checked (stop_at fault).answer (verdict right 0) (stop_at fault).place ≡ checked_of builtin context source rows text errors
+    check_fault fault e = rw (← check_order.whole short threes pairs, e, unread fault)
 
     -- It is, and the rows are judged.
-    pub check_judged : eqb answer done || eqb answer context_end ≡ true → {table : List ℕ} → table ≡ table_of builtin → {r : code.Verdict}
-        → Verdicts (verdict_on (records table) context (take place source) rows text errors) r
-        → answered r ≡ checked_of builtin context source rows text errors
-    check_judged t {table} is {r} w =
+    pub check_judged : {end : ℕ} → readable context source ≡ true → end ≡ (stop_of context source).place → {table : List ℕ}
+        → table ≡ table_of builtin → {v : Verdict} → v ≡ verdict_on (records table) context (take end source) rows text errors
+        → checked done v 0 ≡ checked_of builtin context source rows text errors
+    check_judged t e {table} is w =
         let names : records table ≡ builtin = ap records is ∙ table-read in
-        rw (← check_order.whole short threes pairs, ← answer_is, ← place_is, t) (rw names at (answered-is w))
+        rw (← check_order.whole short threes pairs, t, w, names, e)

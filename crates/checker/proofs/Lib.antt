@@ -1,4 +1,3 @@
-pub mod Peeks
 pub mod Meetings
 pub mod PieceLaws
 pub mod Walking

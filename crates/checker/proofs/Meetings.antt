@@ -1,16 +1,20 @@
 -- Laws of meeting what should come next: one after the other, characters in a text, and numbers.
+use Rattle.std.specs.Prelude.{Option, Some, None, if◌then◌else◌}
+use Rattle.std.specs.Int.{w32, from_le_bytes}
+use Rattle.std.proofs.Common.{get_or-take}
+use Rattle.std.proofs.lemmas.Option.{cond_some, none-some}
 use Prim.Native.Nat.{ℕ, zero, suc, ◌+◌, ◌*◌, ◌/◌, ◌≤◌, ◌<◌}
 use mathlib.Core.Path.{◌≡◌, refl, sym, ◌∙◌, ap}
 use mathlib.Core.List.{List, [], ◌∷◌, ◌++◌}
-use mathlib.Core.Bool.{Bool, true, false, ◌&&◌, and-true, and-false, and_assoc, and-eq-true_iff}
+use mathlib.Core.Bool.{Bool, true, false, ◌&&◌, and-true, and_assoc, and-eq-true_iff}
 use mathlib.Core.Logic.{◌≢◌, ⊎_elim}
 use native.Mathlib.Omega.{arith}
 use lib.Dec.{eqb}
 use lib.ListN.{length, get_or, take, drop, length-append, length-drop, length-take, drop_of_length-le}
 use lib.Seq.{drop-drop, drop-cons, get_or-drop}
-use borrow.Author.Tests.{eqb-true, eq-eqb, ne_eqb}
+use borrow.Author.Tests.{eqb-true, eq-eqb}
 use Rattle.lists.specs.Bytes.{word32, words}
-use Rattle.lists.proofs.Choice.{if_both, no_way, test?}
+use Rattle.lists.proofs.Choice.{no_way, test?}
 use Rattle.standard.specs.declared.characters.CharRead.{CharRead}
 use Rattle.standard.specs.declared.characters.CharRead.TheVariants.{Char}
 use Rattle.standard.specs.Utf8.{read_char, written, encode}
@@ -18,9 +22,9 @@ use Rattle.standard.specs.Names.{stands}
 use Rattle.standard.proofs.Narrow.{stands-fits}
 use Rattle.standard.proofs.RoundTrip.{encode-octets, encode-scalar}
 use Rattle.standard.proofs.Back.{read_back}
+use Rattle.standard.proofs.Skips.{rest_from}
 use Rattle.standard.proofs.Utf8.{read_length}
-use Rattle.checker.specs.declared.meeting.Met.{Met}
-use Rattle.checker.specs.Meeting.{lent, Meets}
+use Rattle.checker.specs.Meeting.{met, met_on}
 
 -- Two words stand one after the other.
 stands-append : (a b s : List ℕ) → stands (a ++ b) s ≡ stands a s && stands b (drop (length a) s)
@@ -46,58 +50,59 @@ front-stands zero s = refl
 front-stands (suc n) [] = refl
 front-stands (suc n) (b ∷ s) = rw (eq-eqb b b refl) (front-stands n s)
 
--- A record of what was met.
-abbrev met_at : Bool → ℕ → Met
-met_at right at = record { right = right; at = at }
+-- Values come next, or others.
+pub met_hit : (values l : List ℕ) (at : ℕ) {end : ℕ} → stands values (drop at l) ≡ true → end ≡ at + length values → Some end ≡ met values l at
+met_hit values l at e is = rw e (ap Some is)
 
-module _ {met : Met} {l : List ℕ} (there : met.at ≤ length l) where
-  -- Nothing comes.
-  pub meets_none : Meets met [] l met
-  unfolding stands
-  meets_none = record { right_is = sym (and-true met.right); at_is = λ e. omega arith; there = there }
+pub met_miss : (values l : List ℕ) (at : ℕ) → stands values (drop at l) ≡ false → None ≡ met values l at
+met_miss values l at e = rw e refl
 
-  -- What was wrong stays wrong.
-  pub meets_over : (values : List ℕ) → met.right ≡ false → Meets met values l met
-  meets_over values e = record { right_is = rw e refl; at_is = λ f. no_way (sym f ∙ e); there = there }
+-- What is known of values that come next.
+pub met_some : (values l : List ℕ) (at : ℕ) {end : ℕ} → met values l at ≡ Some end → (stands values (drop at l) ≡ true) × (at + length values ≡ end)
+met_some values l at {end} e = cond_some (stands values (drop at l)) (at + length values) end e
 
-  -- Something else comes.
-  pub meets_miss : (values : List ℕ) → stands values (drop met.at l) ≡ false → Meets met values l (met_at false met.at)
-  meets_miss values e = record { right_is = rw e (sym (and-false met.right)); at_is = λ f. no_way (sym f); there = there }
+-- Of others.
+pub met_not : (values l : List ℕ) (at : ℕ) → met values l at ≡ None → stands values (drop at l) ≡ false
+met_not values l at e =
+    ⊎_elim (λ t. absurd (none-some (at + length values) (sym e ∙ rw t refl))) (λ f. f) (test? (stands values (drop at l)))
 
-  -- They come.
-  pub meets_hit : (values : List ℕ) (at : ℕ) → met.right ≡ true → stands values (drop met.at l) ≡ true → at ≡ met.at + length values
-      → Meets met values l (met_at true at)
-  meets_hit values at r e is = record {
-    right_is = rw (r, e) refl;
-    at_is = λ f. is;
-    there = omega (arith, stands-fits values (drop met.at l) e, length-drop met.at l);
-  }
-
--- What was met, where its parts are known.
-pub meets_known : {met r : Met} {values l : List ℕ} {at : ℕ} → Meets met values l r → r.right ≡ true → r.at ≡ at
-    → Meets met values l (met_at true at)
-meets_known w right is = record { right_is = sym right ∙ w.right_is; at_is = λ f. sym is ∙ w.at_is right; there = rw is at w.there }
+-- They end within.
+pub met-within : (values l : List ℕ) (at : ℕ) {end : ℕ} → at ≤ length l → met values l at ≡ Some end → (at ≤ end) × (end ≤ length l)
+met-within values l at h e =
+    let w = met_some values l at e in
+    (omega arith, omega (arith, stands-fits values (drop at l) w.0, length-drop at l))
 
 -- One after the other.
-pub meets-join : {m m' m'' : Met} {a b l : List ℕ} → Meets m a l m' → Meets m' b l m'' → Meets m (a ++ b) l m''
-meets-join {m} {m'} {m''} {a} {b} {l} p q = record { right_is = both m'.right refl; at_is = far; there = q.there }
+pub met-append : (a b l : List ℕ) (at : ℕ) → met (a ++ b) l at ≡ met_on b l (met a l at)
+met-append a b l at = rw (stands-append a b (drop at l), drop-drop (length a) at l) (by_case (stands a (drop at l)))
   where
-    on : m'.right ≡ true → drop m'.at l ≡ drop (length a) (drop m.at l)
-    on r = ap (λ (n : ℕ). drop n l) (p.at_is r) ∙ sym (drop-drop (length a) m.at l)
+    all : at + length (a ++ b) ≡ at + length a + length b
+    all = omega (arith, length-append a b)
 
-    both : (t : Bool) → m'.right ≡ t → m''.right ≡ m.right && stands (a ++ b) (drop m.at l)
-    both true r =
-        let w = (and-eq-true_iff m.right (stands a (drop m.at l))).0 (sym p.right_is ∙ r) in
-        q.right_is ∙ rw (r, on r, stands-append a b (drop m.at l), w.0, w.1) refl
-    both false r =
-        let f : (m.right && stands a (drop m.at l)) && stands b (drop (length a) (drop m.at l)) ≡ false =
-        ap (λ (t : Bool). t && stands b (drop (length a) (drop m.at l))) (sym p.right_is ∙ r) in
-        q.right_is ∙ rw r (sym (rw (stands-append a b (drop m.at l), ← and_assoc m.right) f))
+    by_case : (t : Bool) → (if t && stands b (drop (at + length a) l) then Some (at + length (a ++ b)) else None)
+        ≡ met_on b l (if t then Some (at + length a) else None)
+    by_case true = rw all refl
+    by_case false = refl
 
-    far : m''.right ≡ true → m''.at ≡ m.at + length (a ++ b)
-    far e =
-        let r = ((and-eq-true_iff m'.right (stands b (drop m'.at l))).0 (sym q.right_is ∙ e)).0 in
-        omega (arith, q.at_is e, p.at_is r, length-append a b)
+pub met_then : (a b l : List ℕ) (at : ℕ) {next : ℕ} {end : Option ℕ} → met a l at ≡ Some next → end ≡ met b l next → end ≡ met (a ++ b) l at
+met_then a b l at e is = is ∙ sym (met-append a b l at ∙ ap (met_on b l) e)
+
+pub met_over : (a b l : List ℕ) (at : ℕ) → met a l at ≡ None → None ≡ met (a ++ b) l at
+met_over a b l at e = sym (met-append a b l at ∙ ap (met_on b l) e)
+
+-- No values come next anywhere.
+pub met_none : (l : List ℕ) (at : ℕ) → Some at ≡ met [] l at
+unfolding stands
+met_none l at = ap Some (omega arith)
+
+-- The same from a place that may be none already.
+pub met_on-none : (l : List ℕ) (o : Option ℕ) → o ≡ met_on [] l o
+met_on-none l None = refl
+met_on-none l (Some at) = met_none l at
+
+pub met_on-append : (a b l : List ℕ) (o : Option ℕ) → met_on (a ++ b) l o ≡ met_on b l (met_on a l o)
+met_on-append a b l None = refl
+met_on-append a b l (Some at) = met-append a b l at
 
 -- The bytes of a number stand where it is read.
 read-stands : (s : List ℕ) (c n : ℕ) → read_char s ≡ Char (written c) n → (stands (encode c) s ≡ true) × (n ≡ length (encode c))
@@ -124,13 +129,13 @@ unfolding stands
 stands-nothing l at n h = rw (drop_of_length-le l h) refl
 
 -- Bytes in fours: how many numbers there are, and each.
-pub words-length : (l : List ℕ) → length (words l) ≡ length l / 4
+pub words_length : (l : List ℕ) → length (words l) ≡ length l / 4
 unfolding words
-words-length [] = refl
-words-length (a ∷ []) = refl
-words-length (a ∷ b ∷ []) = refl
-words-length (a ∷ b ∷ c ∷ []) = refl
-words-length (a ∷ b ∷ c ∷ d ∷ l) = omega (arith, words-length l)
+words_length [] = refl
+words_length (a ∷ []) = refl
+words_length (a ∷ b ∷ []) = refl
+words_length (a ∷ b ∷ c ∷ []) = refl
+words_length (a ∷ b ∷ c ∷ d ∷ l) = omega (arith, words_length l)
 
 -- Four bytes of what is left stand that much later in the whole.
 word-drop : (n : ℕ) (l : List ℕ) (i : ℕ) → word32 (drop n l) i ≡ word32 l (n + i)
@@ -150,28 +155,15 @@ words-at (a ∷ b ∷ c ∷ d ∷ l) (suc i) h =
     words-at l i (omega arith) ∙ word-drop 4 (a ∷ b ∷ c ∷ d ∷ l) (4 * i)
     ∙ ap (word32 (a ∷ b ∷ c ∷ d ∷ l)) (let e : 4 + 4 * i ≡ 4 * suc i = omega arith in e)
 
--- Numbers that are lent: no more than words and bytes.
-pub lent_length : (numbers bytes : List ℕ) → length (lent numbers bytes) ≤ length numbers + length bytes
-lent_length numbers bytes =
-    if_both (λ (l : List ℕ). length l ≤ length numbers + length bytes) (eqb (length numbers) 0) (words bytes) numbers
-    (λ e. omega (arith, words-length bytes)) (λ e. omega arith)
-
--- Numbers that are lent as bytes, and as words.
-module _ (numbers bytes : List ℕ) (at : ℕ) where
-  pub lent_bytes : length numbers ≡ 0 → at < length (lent numbers bytes) → at < length bytes / 4
-  lent_bytes e h = rw (eq-eqb (length numbers) 0 e, words-length bytes) at h
-
-  pub lent_byte : length numbers ≡ 0 → at < length (lent numbers bytes) → word32 bytes (4 * at) ≡ get_or (lent numbers bytes) at 0
-  lent_byte e h = rw (eq-eqb (length numbers) 0 e) (sym (words-at bytes at (lent_bytes e h)))
-
-  pub lent_words : length numbers ≢ 0 → at < length (lent numbers bytes) → at < length numbers
-  lent_words e h = rw (ne_eqb (length numbers) 0 e) at h
-
--- There are no bytes.
-pub lent-all-words : (numbers : List ℕ) → lent numbers [] ≡ numbers
-unfolding words
-lent-all-words [] = refl
-lent-all-words (n ∷ numbers) = rw (ne_eqb (length (n ∷ numbers)) 0 (λ z. omega arith))
+-- A number's four bytes are read as the number.
+pub words_read : (l : List ℕ) (i k : ℕ) → 4 ≤ k → i < length (words l) → let four = take k (drop (4 * i) l) in
+    from_le_bytes w32 (get_or four 0 0 ∷ get_or four 1 0 ∷ get_or four 2 0 ∷ get_or four 3 0 ∷ []) ≡ get_or (words l) i 0
+words_read l i k h there =
+    let some : (j : ℕ) → j < 4 → get_or (take k (drop (4 * i) l)) j 0 ≡ get_or l (4 * i + j) 0 =
+    λ j m. get_or-take k (drop (4 * i) l) j 0 (omega arith) ∙ get_or-drop (4 * i) l j 0 in
+    let first : 4 * i + 0 ≡ 4 * i = omega arith in
+    rw (some 0 (omega arith), some 1 (omega arith), some 2 (omega arith), some 3 (omega arith), first)
+    (omega (arith, words-at l i (omega (arith, words_length l))))
 
 -- A number's bytes do not stand where no character is read.
 pub other-read : (s : List ℕ) (c : ℕ) (r : CharRead) → read_char s ≡ r → ((c n : ℕ) → r ≡ Char c n → ⊥) → stands (encode c) s ≡ false
@@ -189,3 +181,10 @@ other-char s {value} {n} c e k =
 pub this_char : (s : List ℕ) {value n : ℕ} (c : ℕ) → read_char s ≡ Char value n → value ≡ written c
     → (stands (encode c) s ≡ true) × (n ≡ length (encode c))
 this_char s {value} {n} c e k = read-stands s c n (e ∙ ap (λ (v : ℕ). Char v n) k)
+
+-- What closes the goals of those who meet.
+pub ruleset meetings = (met_hit, met_miss, met_none, met_then, met_over, met-within)
+
+pub ruleset meet_numbers = (met_hit, met_miss, stands-nothing, stands-number)
+
+pub ruleset meet_chars = (met_hit, met_miss, other-read, other-char, this_char, rest_from, read_length)

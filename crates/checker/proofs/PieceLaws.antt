@@ -1,19 +1,19 @@
 -- Pieces of the code, one law for each way that its readers return.
 use Rattle.std.specs.Prelude.{if◌then◌else◌}
-use Prim.Native.Nat.{ℕ, suc, ◌+◌, ◌-◌, ◌≤◌, ◌<◌, min}
+use Prim.Native.Nat.{ℕ, zero, suc, ◌+◌, ◌-◌, ◌≤◌, ◌<◌, min}
 use Prim.Native.Char.{code}
 use mathlib.Core.Path.{◌≡◌, refl, sym, ◌∙◌, ap}
-use mathlib.Core.List.{List, [], append-nil}
+use mathlib.Core.List.{List, [], ◌∷◌, append-nil}
 use mathlib.Core.Bool.{Bool, true, false, ◌||◌, ◌&&◌}
 use mathlib.Core.Logic.{◌≢◌, ⊎_elim}
 use native.Mathlib.Omega.{arith}
 use native.Mathlib.Numerals.{add-one}
-use lib.Dec.{ltb, eqb}
+use lib.Dec.{ltb}
 use lib.ListN.{length, get_or, take, drop, length-drop}
 use lib.Seq.{drop-drop, get_or-drop}
-use borrow.Author.Tests.{eqb-true, lt-ltb, le-ltb}
+use borrow.Author.Tests.{lt-ltb, le-ltb}
 use Rattle.lists.specs.Notation.{next, front}
-use Rattle.lists.proofs.Choice.{below?, or_true}
+use Rattle.lists.proofs.Choice.{below?}
 use Rattle.standard.specs.declared.Context.{Context}
 use Rattle.standard.specs.declared.characters.CharRead.{CharRead}
 use Rattle.standard.specs.declared.characters.CharRead.TheVariants.{Char, Incomplete, Illformed, End}
@@ -51,8 +51,21 @@ use Rattle.standard.proofs.FrontPiece.{
   first_character,
 }
 use Rattle.checker.specs.declared.pieces.Piece.{Piece}
-use Rattle.checker.specs.Pieces.{codes_of, piece_of, one_of, keeps_text}
-use Rattle.checker.proofs.Peeks.{next_peek, next_seen, next_met, next_missed, peek_within}
+use Rattle.checker.specs.Pieces.{codes_of, piece_of, one_of}
+
+-- Where the first n elements pass, and the one after them doesn't, they are the front.
+pub front_ends : (p : ℕ → Bool) (l : List ℕ) (n : ℕ) → n ≤ length l → ((i : ℕ) → i < n → p (get_or l i 0) ≡ true)
+    → (n < length l → p (get_or l n 0) ≡ false) → n ≡ length (front p l)
+unfolding front
+front_ends p [] zero h each end = refl
+front_ends p [] (suc n) h each end = absurd (omega arith)
+front_ends p (b ∷ l) zero h each end = rw (end (omega arith)) refl
+front_ends p (b ∷ l) (suc n) h each end =
+    rw (each 0 (omega arith)) (ap suc (front_ends p l n (omega arith) (λ i k. each (suc i) (omega arith)) (λ k. end (omega arith))))
+
+-- What stands in the rest of some bytes.
+pub rest-at : (s : List ℕ) (from i : ℕ) → get_or (take (length s - from) (drop from s)) i 0 ≡ get_or s (from + i) 0
+rest-at s from i = rw (rest_from s from) (get_or-drop from s i 0)
 
 -- A piece of one character.
 pub one-is : (size char : ℕ) (unclosed : Bool) (error : ℕ)
@@ -84,47 +97,40 @@ module _ (base at from end : ℕ) (s : List ℕ) (end_is : end ≡ from + length
   number_none e = alone 1 ∙ sym (digits_none base (from - at) from end s end_is e)
 
   module _ (value : ℕ) (some : end ≢ from) (value-is : value ≡ min (number base (front (is_digit base) (drop from s))) 0x110000)
-      (after : at ≤ from) {seen char error : ℕ} (is : seen ≡ get_or s end 256)
-      (char_is : char ≡ (meaning_of value).char) (error-is : error ≡ (meaning_of value).code) where
-    -- A `;` is seen after them.
-    pub number_closed : seen ≡ code ";" → piece_of (one_of (end + 1 - at) char false error) ≡ digits_at base (from - at) (drop from s)
+      (after : at ≤ from) {char error : ℕ} (char_is : char ≡ (meaning_of value).char) (error-is : error ≡ (meaning_of value).code) where
+    -- A `;` comes after them.
+    pub number_closed : next (code ";") (drop end s) ≡ true
+        → piece_of (one_of (end + 1 - at) char false error) ≡ digits_at base (from - at) (drop from s)
     number_closed e =
         let size : end + 1 - at ≡ suc (from - at + (end - from)) = omega arith in
         one-is (end + 1 - at) char false error
-        ∙ rw (digits_some base (from - at) from end s end_is value some value-is, next_met (code ";") s end refl is e, char_is, error-is, size)
+        ∙ rw (digits_some base (from - at) from end s end_is value some value-is, e, char_is, error-is, size)
 
-    -- None is.
-    pub number_open : seen ≢ code ";" → piece_of (one_of (end - at) char true error) ≡ digits_at base (from - at) (drop from s)
+    -- None does.
+    pub number_open : next (code ";") (drop end s) ≡ false
+        → piece_of (one_of (end - at) char true error) ≡ digits_at base (from - at) (drop from s)
     number_open e =
         let size : end - at ≡ from - at + (end - from) = omega arith in
         one-is (end - at) char true error
-        ∙ rw (digits_some base (from - at) from end s end_is value some value-is, next_missed (code ";") s end refl is e, char_is, error-is, size)
+        ∙ rw (digits_some base (from - at) from end s end_is value some value-is, e, char_is, error-is, size)
 
--- What is seen after `&#`.
-module _ (s : List ℕ) (at : ℕ) {seen : ℕ} (is : seen ≡ get_or s (at + 2) 256) where
-  -- The next byte is `x` or `X` where one of them is seen.
-  hex_seen : next (code "x") (drop (at + 2) s) || next (code "X") (drop (at + 2) s) ≡ eqb seen (code "x") || eqb seen (code "X")
-  hex_seen = rw (next_seen (code "x") s (at + 2) refl is, next_seen (code "X") s (at + 2) refl is)
+-- What comes after `&#`.
+module _ (s : List ℕ) (at : ℕ) where
+  abbrev hex : Bool
+  hex = next (code "x") (drop (at + 2) s) || next (code "X") (drop (at + 2) s)
 
-  -- One of them is.
-  pub hex_there : eqb seen (code "x") || eqb seen (code "X") ≡ true → at + 3 ≤ length s
-  hex_there e =
-      let h : seen < 256 =
-      ⊎_elim (λ k. omega (arith, eqb-true seen (code "x") k)) (λ k. omega (arith, eqb-true seen (code "X") k))
-      (or_true (eqb seen (code "x")) (eqb seen (code "X")) e) in
-      omega (arith, peek_within s (at + 2) is h)
-
-  pub numeric_hex : eqb seen (code "x") || eqb seen (code "X") ≡ true → digits_at 16 (at + 3 - at) (drop (at + 3) s) ≡ numeric (drop (at + 2) s)
+  -- `x` or `X`.
+  pub numeric_hex : hex ≡ true → digits_at 16 (at + 3 - at) (drop (at + 3) s) ≡ numeric (drop (at + 2) s)
   unfolding numeric
   numeric_hex e =
       let intro : at + 3 - at ≡ 3 = omega arith in
       let further : at + 2 + 1 ≡ at + 3 = omega arith in
-      rw (hex_seen, e, intro, drop-drop 1 (at + 2) s, further)
+      rw (e, intro, drop-drop 1 (at + 2) s, further)
 
-  -- None is.
-  pub numeric_decimal : eqb seen (code "x") || eqb seen (code "X") ≡ false → digits_at 10 (at + 2 - at) (drop (at + 2) s) ≡ numeric (drop (at + 2) s)
+  -- Another byte, or none.
+  pub numeric_decimal : hex ≡ false → digits_at 10 (at + 2 - at) (drop (at + 2) s) ≡ numeric (drop (at + 2) s)
   unfolding numeric
-  numeric_decimal e = let intro : at + 2 - at ≡ 2 = omega arith in rw (hex_seen, e, intro)
+  numeric_decimal e = let intro : at + 2 - at ≡ 2 = omega arith in rw (e, intro)
 
 -- A name that was found, as a piece.
 abbrev found_of : Found → Bool → Piece
@@ -141,20 +147,20 @@ module _ (names : List Name) (context : Context) (s : List ℕ) (from : ℕ) {fo
   name_there h = omega (arith, found-there names (drop from s) found_is, length-drop from s)
 
   -- There is none: the letters and digits there and the byte after them tell.
-  pub name_none : {end seen : ℕ} (unknown : Bool) → found.len ≡ 0 → end ≡ from + length (front alphanumeric (drop from s))
-      → seen ≡ get_or s end 256 → ltb from end && eqb seen (code ";") ≡ unknown
+  pub name_none : {end : ℕ} (unknown : Bool) → found.len ≡ 0 → end ≡ from + length (front alphanumeric (drop from s))
+      → ltb from end && next (code ";") (drop end s) ≡ unknown
       → piece_of (one_of 1 0x26 false (if unknown then 4 else 0)) ≡ named_by context (longest names (drop from s)) (drop from s)
-  name_none {end} {seen} unknown none end_is is e =
+  name_none {end} unknown none end_is e =
       rw (← found_is) (alone (if unknown then 4 else 0) ∙ sym (by_none context found (drop from s) unknown none (tells ∙ e)))
     where
       some : (n : ℕ) → end ≡ from + n → ltb 0 n ≡ ltb from end
       some n k =
           ⊎_elim (λ h. lt-ltb 0 n (omega arith) ∙ sym (lt-ltb from end h)) (λ h. le-ltb 0 n (omega arith) ∙ sym (le-ltb from end h)) (below? from end)
 
-      tells : unknown_name (drop from s) ≡ ltb from end && eqb seen (code ";")
+      tells : unknown_name (drop from s) ≡ ltb from end && next (code ";") (drop end s)
       tells =
           let n : ℕ = length (front alphanumeric (drop from s)) in
-          unknown-at (drop from s) n refl ∙ rw (some n end_is, drop-drop n from s, ← end_is, next_seen (code ";") s end refl is)
+          unknown-at (drop from s) n refl ∙ rw (some n end_is, drop-drop n from s, ← end_is)
 
   module _ (some : found.len ≢ 0) where
     -- The last byte of the name.
@@ -168,19 +174,18 @@ module _ (names : List Name) (context : Context) (s : List ℕ) (from : ℕ) {fo
         → piece_of (found_of found false) ≡ named_by context (longest names (drop from s)) (drop from s)
     name_closed e = rw (← found_is, by_closed context found (drop from s) some (last_is ∙ e), add-one)
 
-    module _ (unclosed : get_or s (from + found.len - 1) 0 ≢ code ";") {seen : ℕ} (is : seen ≡ get_or s (from + found.len) 256) where
-      -- It is none, and what is seen after it tells whether it stays text.
-      staying : stays_text context (drop found.len (drop from s)) ≡ keeps_text context seen
-      staying =
-          rw (drop-drop found.len from s, next_peek (λ c. eqb c (code "=") || alphanumeric c) s (from + found.len) refl, is)
-
-      pub name_stays : keeps_text context seen ≡ true
+    module _ (unclosed : get_or s (from + found.len - 1) 0 ≢ code ";") where
+      -- It is none, and what comes after it tells whether it stays text.
+      pub name_stays : stays_text context (drop (from + found.len) s) ≡ true
           → piece_of (one_of 1 0x26 false 0) ≡ named_by context (longest names (drop from s)) (drop from s)
       name_stays e =
-          rw (← found_is) (alone 0 ∙ sym (by_staying context found (drop from s) some (λ f. unclosed (sym last_is ∙ f)) (staying ∙ e)))
+          rw (← found_is)
+          (alone 0 ∙ sym (by_staying context found (drop from s) some (λ f. unclosed (sym last_is ∙ f)) (rw (drop-drop found.len from s) e)))
 
-      pub name_open : keeps_text context seen ≡ false → piece_of (found_of found true) ≡ named_by context (longest names (drop from s)) (drop from s)
-      name_open e = rw (← found_is, by_open context found (drop from s) some (λ f. unclosed (sym last_is ∙ f)) (staying ∙ e), add-one)
+      pub name_open : stays_text context (drop (from + found.len) s) ≡ false
+          → piece_of (found_of found true) ≡ named_by context (longest names (drop from s)) (drop from s)
+      name_open e =
+          rw (← found_is, by_open context found (drop from s) some (λ f. unclosed (sym last_is ∙ f)) (rw (drop-drop found.len from s) e), add-one)
 
 -- The piece at `at` goes by the byte there.
 module _ (names : List Name) (context : Context) (s : List ℕ) (at : ℕ) (there : at < length s) where
@@ -190,36 +195,51 @@ module _ (names : List Name) (context : Context) (s : List ℕ) (at : ℕ) (ther
   byte_is : get_or (drop at s) 0 0 ≡ get_or s at 0
   byte_is = get_or-drop at s 0 0 ∙ ap (λ (i : ℕ). get_or s i 0) (let k : at + 0 ≡ at = omega arith in k)
 
-  -- A CR is a newline, with a LF that is seen after it.
-  pub front_newline : {seen : ℕ} (feed : Bool) → get_or s at 0 ≡ code "\r" → seen ≡ get_or s (at + 1) 256 → eqb seen (code "\n") ≡ feed
+  -- A CR is a newline, with a LF that is next.
+  newline : (feed : Bool) → get_or s at 0 ≡ code "\r" → next (code "\n") (drop (at + 1) s) ≡ feed
       → piece_of (one_of (if feed then 2 else 1) 10 false 0) ≡ piece_at names context (drop at s)
   unfolding encode octets
-  front_newline feed b is e =
-      one-is (if feed then 2 else 1) 10 false 0
-      ∙ sym (first_newline names context (drop at s) some_left (byte_is ∙ b)
-      ∙ rw (drop-drop 1 at s, next_seen (code "\n") s (at + 1) refl is, e))
+  newline feed b e =
+      one-is (if feed then 2 else 1) 10 false 0 ∙ sym (first_newline names context (drop at s) some_left (byte_is ∙ b) ∙ rw (drop-drop 1 at s, e))
 
-  module _ (b : get_or s at 0 ≡ code "&") {seen : ℕ} (is : seen ≡ get_or s (at + 1) 256) where
+  pub front_pair : get_or s at 0 ≡ code "\r" → next (code "\n") (drop (at + 1) s) ≡ true
+      → piece_of (one_of 2 10 false 0) ≡ piece_at names context (drop at s)
+  front_pair = newline true
+
+  pub front_return : get_or s at 0 ≡ code "\r" → next (code "\n") (drop (at + 1) s) ≡ false
+      → piece_of (one_of 1 10 false 0) ≡ piece_at names context (drop at s)
+  front_return = newline false
+
+  module _ (b : get_or s at 0 ≡ code "&") where
     -- An `&` before a `#`.
-    pub front_numeric : seen ≡ code "#" → numeric (drop (at + 2) s) ≡ piece_at names context (drop at s)
+    pub front_numeric : next (code "#") (drop (at + 1) s) ≡ true → numeric (drop (at + 2) s) ≡ piece_at names context (drop at s)
     unfolding reference
     front_numeric e =
         let further : at + 1 + 1 ≡ at + 2 = omega arith in
         rw (
           first_reference names context (drop at s) some_left (byte_is ∙ b),
           drop-drop 1 at s,
-          next_met (code "#") s (at + 1) refl is e,
+          e,
           drop-drop 1 (at + 1) s,
           further,
         )
 
     -- An `&` before another byte, or at the end.
-    pub front_named : seen ≢ code "#" → named_by context (longest names (drop (at + 1) s)) (drop (at + 1) s) ≡ piece_at names context (drop at s)
+    pub front_named : next (code "#") (drop (at + 1) s) ≡ false
+        → named_by context (longest names (drop (at + 1) s)) (drop (at + 1) s) ≡ piece_at names context (drop at s)
     unfolding reference
-    front_named e =
-        rw (first_reference names context (drop at s) some_left (byte_is ∙ b), drop-drop 1 at s, next_missed (code "#") s (at + 1) refl is e)
+    front_named e = rw (first_reference names context (drop at s) some_left (byte_is ∙ b), drop-drop 1 at s, e)
 
   -- Any other byte is of a character.
   pub front_character : get_or s at 0 ≢ code "\r" → get_or s at 0 ≢ code "&"
       → character (read_char (drop at s)) (drop at s) ≡ piece_at names context (drop at s)
   front_character p q = sym (first_character names context (drop at s) some_left (λ e. p (sym byte_is ∙ e)) (λ e. q (sym byte_is ∙ e)))
+
+-- What closes the goals of the readers: of a character, of digits, after `&#`, and of any piece.
+pub ruleset characters = (character-read, rest_from)
+
+pub ruleset digits = (number_none, number_closed, number_open)
+
+pub ruleset numerics = (numeric_hex, numeric_decimal)
+
+pub ruleset fronts = (front_pair, front_return, front_numeric, front_named, front_character)

@@ -1,26 +1,27 @@
 -- The verdict on the rows, one after the other.
-use Prim.Native.Nat.{ℕ, zero, suc, ◌+◌, ◌-◌, ◌*◌, ◌%◌, ◌≤◌, ◌<◌}
+use Prim.Native.Nat.{ℕ, zero, suc, ◌+◌, ◌*◌, ◌≤◌, ◌<◌}
 use mathlib.Core.Path.{◌≡◌, refl, sym, ◌∙◌, ap}
 use mathlib.Core.List.{List, [], ◌∷◌}
-use mathlib.Core.Bool.{true, false, ◌&&◌, and-false}
-use mathlib.Core.Logic.{◌≢◌, inl, inr, ⊎_elim}
+use mathlib.Core.Bool.{true, false, ◌&&◌}
+use mathlib.Core.Logic.{◌≢◌, ⊎_elim}
 use native.Mathlib.Omega.{arith}
 use native.Mathlib.Numerals.{add-one}
 use lib.Dec.{eqb}
 use lib.ListN.{length, get_or, drop, length-drop, drop_of_length-le}
-use lib.Seq.{drop-cons}
-use borrow.Author.Tests.{eqb-true, eqb-false, ne_eqb}
-use Rattle.lists.proofs.Choice.{and_true, test?}
+use lib.Seq.{drop-cons, get_or-drop}
+use borrow.Author.Tests.{eqb-true, ne_eqb}
+use Rattle.lists.proofs.Choice.{and_true, test?, below?}
 use Rattle.standard.specs.declared.Context.{Context}
 use Rattle.standard.specs.Names.{Name}
 use Rattle.standard.specs.Reading.{pieces_from, pieces}
 use Rattle.standard.proofs.Bounds.{pieces_unfold}
-use Rattle.checker.specs.declared.rows.Judged.{Judged}
-use Rattle.checker.specs.declared.verdicts.Verdict as code
-use Rattle.checker.specs.Transcript.{row, rows_of, Left, right, remains, spent, Verdict, verdict, judge, verdict_on}
+use Rattle.checker.specs.declared.lent.Places.{Places}
+use Rattle.checker.specs.declared.rows.Reason.{Reason}
+use Rattle.checker.specs.declared.rows.Reason.TheVariants.{NoSource, NoPieceEnd, TextDiffers, ErrorsDiffer, Remains}
+use Rattle.checker.specs.Transcript.{Row, row, rows_of, right, remains, spent, verdict, judge, verdict_on}
 use Rattle.checker.specs.Spans.{Alike, PlainRow, unit_row, UnitRows, PlainRows}
-use Rattle.checker.specs.Meeting.{left_at, Judges, Verdicts, LastVerdict}
-use Rattle.checker.proofs.RowLaws.{judged_plain}
+use Rattle.checker.specs.Meeting.{IsWithin, left_at, number_of, IsWrong, LeadsTo}
+use Rattle.checker.proofs.RowLaws.{row_plain}
 
 -- The first of the rows that are left.
 rows_next : (rows : List ℕ) (next : ℕ) → next + 3 ≤ length rows
@@ -39,118 +40,84 @@ rows_next rows next h =
       drop-cons rows (suc (suc next)) 0 (omega arith),
     )
 
--- A verdict of the code.
-abbrev coded : ℕ → ℕ → code.Verdict
-coded reason at_row = record { reason = reason; row = at_row }
-
--- A known verdict.
-verdicts : {v : Verdict} (reason at_row : ℕ) → v ≡ verdict reason at_row → Verdicts v (coded reason at_row)
-verdicts reason at_row e = record { reason_is = sym (ap (λ (x : Verdict). x.reason) e); row_is = sym (ap (λ (x : Verdict). x.at_row) e) }
-
 -- The verdict is that on the rows from the i-th on, from these places on.
-pub record RowByRow (names : List Name) (context : Context) (s rows text errors : List ℕ) (next i at t e : ℕ) : Type 0 where
-  pub at_there : at ≤ length s
-  pub text_there : t ≤ length text
-  pub errors_there : e ≤ length errors
-  pub next_there : next ≤ length rows
-  pub threes : (length rows - next) % 3 ≡ 0
-  pub few : i ≤ at
-  pub same : verdict_on names context s rows text errors ≡ judge i (left_at names context s at text t errors e) (rows_of (drop next rows))
+pub record RowByRow (names : List Name) (context : Context) (s rows text errors : List ℕ) (i : ℕ) (p : Places) : Type 0 where
+  pub there : IsWithin s text errors p
+  pub rows_there : 3 * i ≤ length rows
+  pub few : i ≤ p.source
+  pub same : verdict_on names context s rows text errors ≡ judge i (left_at names context s text errors p) (rows_of (drop (3 * i) rows))
 
--- Before the first row.
-pub row-by-row : {names : List Name} {context : Context} {s rows text errors : List ℕ} → length rows % 3 ≡ 0
-    → RowByRow names context s rows text errors 0 0 0 0 0
-row-by-row h = record {
-  at_there = omega arith;
-  text_there = omega arith;
-  errors_there = omega arith;
-  next_there = omega arith;
-  threes = omega arith;
-  few = omega arith;
-  same = refl;
-}
-
-module _ {names : List Name} {context : Context} {s rows text errors : List ℕ} {next i at t e : ℕ}
-    (w : RowByRow names context s rows text errors next i at t e) where
-  abbrev here : Left
-  here = left_at names context s at text t errors e
-
-  -- The numbers of the next row are there.
-  pub next_row : next < length rows → next + 3 ≤ length rows
-  next_row h = omega (arith, w.threes)
-
-  module _ (more : next < length rows) {n m k : ℕ} (n-is : n ≡ get_or rows next 0) (m-is : m ≡ get_or rows (next + 1) 0)
-      (k-is : k ≡ get_or rows (next + 2) 0) {r : Judged} (j : Judges names context s at text t errors e (row n m k) r) where
-    first_row : rows_of (drop next rows) ≡ row n m k ∷ rows_of (drop (next + 3) rows)
-    first_row = rows_next rows next (next_row more) ∙ rw (n-is, m-is, k-is)
+module _ {names : List Name} {context : Context} {s rows text errors : List ℕ} {i : ℕ} {p : Places}
+    (w : RowByRow names context s rows text errors i p) where
+  module _ (more : 3 * i + 3 ≤ length rows) {r : Row} (source-is : r.source ≡ get_or rows (3 * i) 0) (text-is : r.text ≡ get_or rows (3 * i + 1) 0)
+      (errors-is : r.errors ≡ get_or rows (3 * i + 2) 0) where
+    first_row : rows_of (drop (3 * i) rows) ≡ r ∷ rows_of (drop (3 * i + 3) rows)
+    first_row = rows_next rows (3 * i) more ∙ rw (← source-is, ← text-is, ← errors-is)
 
     -- It is wrong.
-    pub row_stops : r.reason ≢ right → Verdicts (verdict_on names context s rows text errors) (coded r.reason i)
+    pub row_stops : {reason : Reason} → IsWrong names context s text errors p r reason
+        → verdict (number_of reason) i ≡ verdict_on names context s rows text errors
     unfolding judge
-    row_stops wrong-one =
-        verdicts r.reason i
-        (w.same ∙ rw (first_row, ← j.reason_is, ne_eqb r.reason right wrong-one))
+    row_stops {reason} k = sym (w.same ∙ rw (first_row, ← k.reason_is, ne_eqb (number_of reason) right (some reason)))
+      where
+        some : (reason : Reason) → number_of reason ≢ right
+        some NoSource e = absurd (omega arith)
+        some NoPieceEnd e = absurd (omega arith)
+        some TextDiffers e = absurd (omega arith)
+        some ErrorsDiffer e = absurd (omega arith)
+        some Remains e = absurd (omega arith)
 
     -- It is right.
-    pub row_on : r.reason ≡ right → RowByRow names context s rows text errors (next + 3) (i + 1) r.at r.text r.errors
+    pub row_on : {end : Places} → LeadsTo names context s text errors p r end → RowByRow names context s rows text errors (i + 1) end
     unfolding judge
-    row_on is_right =
-        let h = j.there is_right in record {
-          at_there = h.1;
-          text_there = h.2;
-          errors_there = h.3;
-          next_there = next_row more;
-          threes = omega (arith, w.threes);
-          few = omega (arith, w.few);
-          same = w.same ∙ rw (first_row, ← j.reason_is, is_right, j.leaves is_right, add-one i);
-        }
+    row_on {end} k = record {
+      there = k.there;
+      rows_there = omega arith;
+      few = omega (arith, w.few, k.on);
+      same =
+          let next : 3 * i + 3 ≡ 3 * (i + 1) = omega arith in
+          w.same ∙ rw (first_row, k.is_right, k.leaves, next, add-one i);
+    }
 
-  module _ (over : length rows ≤ next) where
+  module _ (over : length rows ≤ 3 * i) where
     -- After the last row.
-    last : verdict_on names context s rows text errors ≡ judge i here []
+    last : verdict_on names context s rows text errors ≡ judge i (left_at names context s text errors p) []
     unfolding rows_of
     last = w.same ∙ rw (drop_of_length-le rows over)
 
-    remaining : spent here ≡ false → Verdicts (verdict_on names context s rows text errors) (coded remains i)
+    -- Something remains.
+    pub some_remains : (p.source ≡ length s → p.text ≡ length text → p.errors ≡ length errors → ⊥)
+        → verdict remains i ≡ verdict_on names context s rows text errors
     unfolding judge
-    remaining f = verdicts remains i (last ∙ rw f)
+    some_remains k = sym (last ∙ rw unspent)
+      where
+        pieces-left : length (pieces names context (drop p.source s)) ≡ 0 → p.source ≡ length s
+        pieces-left e =
+            ⊎_elim
+            (λ (h : p.source < length s). let some : 0 < length (drop p.source s) = simp length-drop (omega arith) in
+            absurd (omega (arith, ap length (pieces_unfold names context (drop p.source s) some), e)))
+            (λ h. omega (arith, w.there.source_there)) (below? p.source (length s))
 
-    -- Covered source remains.
-    source_remains : at ≢ length s → Verdicts (verdict_on names context s rows text errors) (coded remains i)
-    source_remains unlike =
-        let some : 0 < length (drop at s) = simp length-drop (omega (arith, w.at_there)) in
-        let more : length (pieces names context (drop at s)) ≢ 0 = λ z. omega (arith, ap length (pieces_unfold names context (drop at s) some)) in
-        remaining (rw (ne_eqb (length (pieces names context (drop at s))) 0 more))
+        unspent : spent (left_at names context s text errors p) ≡ false
+        unspent =
+            ⊎_elim
+            (λ t. let x = and_true (eqb (length (pieces names context (drop p.source s))) 0 && eqb (length (drop p.text text)) 0)
+            (eqb (length (drop p.errors errors)) 0) t in
+            let y = and_true (eqb (length (pieces names context (drop p.source s))) 0) (eqb (length (drop p.text text)) 0) x.0 in
+            absurd (k (pieces-left (eqb-true _ _ y.0))
+            (omega (arith, eqb-true _ _ y.1, length-drop p.text text, w.there.text_there))
+            (omega (arith, eqb-true _ _ x.1, length-drop p.errors errors, w.there.errors_there))))
+            (λ f. f) (test? (spent (left_at names context s text errors p)))
 
-    module _ (source-over : at ≡ length s) where
-      -- Text remains.
-      text_remains : t ≢ length text → Verdicts (verdict_on names context s rows text errors) (coded remains i)
-      text_remains unlike =
-          remaining (rw (
-            length-drop t text,
-            ne_eqb (length text - t) 0 (λ z. unlike (omega (arith, w.text_there))),
-            and-false (eqb (length (pieces names context (drop at s))) 0),
-          ))
-
-      module _ (text-over : t ≡ length text) where
-        -- Errors remain.
-        errors_remain : e ≢ length errors → Verdicts (verdict_on names context s rows text errors) (coded remains i)
-        errors_remain unlike =
-            remaining (rw (
-              length-drop e errors,
-              ne_eqb (length errors - e) 0 (λ z. unlike (omega (arith, w.errors_there))),
-              and-false (eqb (length (pieces names context (drop at s))) 0 && eqb (length (drop t text)) 0),
-            ))
-
-        -- Nothing remains.
-        nothing_remains : e ≡ length errors → Verdicts (verdict_on names context s rows text errors) (coded right 0)
-        unfolding judge pieces_from
-        nothing_remains errors-over =
-            let source_there : length s ≤ at = omega arith in
-            let text_there : length text ≤ t = omega arith in
-            let errors_there : length errors ≤ e = omega arith in
-            verdicts right 0
-            (last ∙ rw (drop_of_length-le s source_there, drop_of_length-le text text_there, drop_of_length-le errors errors_there))
+    -- Nothing remains.
+    pub none_remains : p.source ≡ length s → p.text ≡ length text → p.errors ≡ length errors
+        → verdict right 0 ≡ verdict_on names context s rows text errors
+    unfolding judge pieces_from
+    none_remains source-over text-over errors-over =
+        let source_there : length s ≤ p.source = omega arith in
+        let text_there : length text ≤ p.text = omega arith in
+        let errors_there : length errors ≤ p.errors = omega arith in
+        sym (last ∙ rw (drop_of_length-le s source_there, drop_of_length-le text text_there, drop_of_length-le errors errors_there))
 
 -- The numbers of a row of one byte.
 unit_is : (n m k : ℕ) → unit_row n m k ≡ true → (n ≡ 1) × (m ≡ 1) × (k ≡ 0)
@@ -159,59 +126,39 @@ unit_is n m k e =
     let v = and_true (eqb n 1) (eqb m 1) w.0 in (eqb-true n 1 v.0, eqb-true m 1 v.1, eqb-true k 0 w.1)
 
 -- Rows of one byte each that the text has too are right.
-pub rows_plain : {names : List Name} {context : Context} {s rows text errors : List ℕ} {next i at t e : ℕ}
-    → RowByRow names context s rows text errors next i at t e → (n : ℕ) → PlainRows rows next s at text t n
-    → RowByRow names context s rows text errors (next + 3 * n) (i + n) (at + n) (t + n) e
-rows_plain {names} {context} {s} {rows} {text} {errors} {next} {i} {at} {t} {e} w n p =
-    go n p.rows_there p.source_there p.text_there p.units p.same
+pub rows_plain : {names : List Name} {context : Context} {s rows text errors : List ℕ} {i : ℕ} {p : Places}
+    → RowByRow names context s rows text errors i p → (n : ℕ) → PlainRows rows (3 * i) s p.source text p.text n
+    → RowByRow names context s rows text errors (i + n) (record { source = p.source + n; text = p.text + n; errors = p.errors })
+rows_plain {names} {context} {s} {rows} {text} {errors} {i} {p} w n plain =
+    go n plain.rows_there plain.source_there plain.text_there plain.units plain.same
   where
-    go : (n : ℕ) → next + 3 * n ≤ length rows → at + n ≤ length s → t + n ≤ length text → UnitRows rows next n → Alike s at text t n
-        → RowByRow names context s rows text errors (next + 3 * n) (i + n) (at + n) (t + n) e
+    go : (n : ℕ) → 3 * i + 3 * n ≤ length rows → p.source + n ≤ length s → p.text + n ≤ length text → UnitRows rows (3 * i) n
+        → Alike (drop p.source s) (drop p.text text) n
+        → RowByRow names context s rows text errors (i + n) (record { source = p.source + n; text = p.text + n; errors = p.errors })
     go zero h k l units same =
-        let a : next + 3 * 0 ≡ next = omega arith in
-        let b : i + 0 ≡ i = omega arith in
-        let c : at + 0 ≡ at = omega arith in
-        let d : t + 0 ≡ t = omega arith in rw (a, b, c, d) w
+        let a : i + 0 ≡ i = omega arith in
+        let b : p.source + 0 ≡ p.source = omega arith in
+        let c : p.text + 0 ≡ p.text = omega arith in rw (a, b, c) w
     go (suc n) h k l units same =
         let rest = go n (omega arith) (omega arith) (omega arith) (λ j m. units j (omega arith)) (λ j m. same j (omega arith)) in
-        let u = unit_is (get_or rows (next + 3 * n) 0) (get_or rows (next + 3 * n + 1) 0) (get_or rows (next + 3 * n + 2) 0)
+        let u = unit_is (get_or rows (3 * i + 3 * n) 0) (get_or rows (3 * i + 3 * n + 1) 0) (get_or rows (3 * i + 3 * n + 2) 0)
         (units n (omega arith)) in
-        let one : PlainRow s (at + n) 1 text (t + n) 1 0 = record {
+        let here : 3 * i + 3 * n ≡ 3 * (i + n) = omega arith in
+        let v = rw here at u in
+        let one : PlainRow s (p.source + n) 1 text (p.text + n) 1 0 = record {
           bytes = refl;
           no_errors = refl;
           there = omega arith;
-          same = λ j m. let x : at + n ≡ at + n + j = omega arith in let y : t + n ≡ t + n + j = omega arith in rw (x, y) at (same n (omega arith));
+          same = λ j m.
+              let x : p.source + n ≡ p.source + n + j = omega arith in
+              let y : p.text + n ≡ p.text + n + j = omega arith in
+              rw (get_or-drop (p.source + n) s j 0, get_or-drop (p.text + n) text j 0, ← x, ← y)
+              (rw (get_or-drop p.source s n 0, get_or-drop p.text text n 0) at (same n (omega arith)));
         } in
-        let judges : Judges names context s (at + n) text (t + n) errors e (row 1 1 0)
-        (record { reason = right; at = at + n + 1; text = t + n + 1; errors = e }) =
-        judged_plain (λ z. omega arith) (omega arith) (omega arith) rest.errors_there one in
-        let a : next + 3 * n + 3 ≡ next + 3 * suc n = omega arith in
-        let b : i + n + 1 ≡ i + suc n = omega arith in
-        let c : at + n + 1 ≡ at + suc n = omega arith in
-        let d : t + n + 1 ≡ t + suc n = omega arith in
-        rw (a, b, c, d) at (row_on rest (omega arith) (sym u.0) (sym u.1) (sym u.2) judges refl)
-
--- A verdict that is known by its parts.
-verdicts-by : {v : Verdict} {r : code.Verdict} {reason at_row : ℕ} → Verdicts v (coded reason at_row) → (r.reason ≡ reason) × (r.row ≡ at_row)
-    → Verdicts v r
-verdicts-by w e = record { reason_is = e.0 ∙ w.reason_is; row_is = e.1 ∙ w.row_is }
-
--- After the last row, the verdict is by whether something remains.
-pub after_last : {names : List Name} {context : Context} {s rows text errors : List ℕ} {next i at t e : ℕ} {r : code.Verdict}
-    → RowByRow names context s rows text errors next i at t e → length rows ≤ next → LastVerdict s at text t errors e i r
-    → Verdicts (verdict_on names context s rows text errors) r
-after_last {names} {context} {s} {rows} {text} {errors} {next} {i} {at} {t} {e} {r} w over d =
-    ⊎_elim (λ x. source (eqb-true at (length s) x))
-    (λ f. let unlike = eqb-false at (length s) f in verdicts-by (source_remains w over unlike) (d.some (inl unlike))) (test? (eqb at (length s)))
-  where
-    numbers : at ≡ length s → t ≡ length text → Verdicts (verdict_on names context s rows text errors) r
-    numbers x y =
-        ⊎_elim (λ k. let z = eqb-true e (length errors) k in verdicts-by (nothing_remains w over x y z) (d.all x y z))
-        (λ f. let unlike = eqb-false e (length errors) f in verdicts-by (errors_remain w over x y unlike) (d.some (inr (inr unlike))))
-        (test? (eqb e (length errors)))
-
-    source : at ≡ length s → Verdicts (verdict_on names context s rows text errors) r
-    source x =
-        ⊎_elim (λ k. numbers x (eqb-true t (length text) k))
-        (λ f. let unlike = eqb-false t (length text) f in verdicts-by (text_remains w over x unlike) (d.some (inr (inl unlike))))
-        (test? (eqb t (length text)))
+        let leads : LeadsTo names context s text errors (record { source = p.source + n; text = p.text + n; errors = p.errors }) (row 1 1 0)
+        (record { source = p.source + n + 1; text = p.text + n + 1; errors = p.errors }) =
+        row_plain (omega arith) rest.there (λ z. omega arith) one in
+        let a : i + n + 1 ≡ i + suc n = omega arith in
+        let b : p.source + n + 1 ≡ p.source + suc n = omega arith in
+        let c : p.text + n + 1 ≡ p.text + suc n = omega arith in
+        rw (a, b, c) at (row_on rest (omega arith) (sym v.0) (sym v.1) (sym v.2) leads)

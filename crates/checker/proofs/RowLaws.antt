@@ -1,4 +1,6 @@
 -- A row, by what was met of it: the reason why it is wrong, and what it leaves.
+use Rattle.std.specs.Prelude.{Some, None}
+use Rattle.std.proofs.lemmas.Option.{same_Some}
 use Prim.Native.Nat.{ℕ, zero, suc, ◌+◌, ◌-◌, ◌*◌, ◌≤◌, ◌<◌}
 use mathlib.Core.Path.{◌≡◌, refl, sym, ◌∙◌, ap}
 use mathlib.Core.List.{List, [], ◌∷◌}
@@ -10,18 +12,20 @@ use lib.ListN.{length, drop, length-drop}
 use lib.Seq.{drop-drop}
 use borrow.Author.Tests.{eq-eqb, ne_eqb, lt-ltb, le-ltb}
 use Rattle.standard.specs.declared.Context.{Context}
+use Rattle.standard.specs.Errors.{numbers}
 use Rattle.standard.specs.Names.{Name, stands}
 use Rattle.standard.specs.Pieces.{Piece, piece_at}
 use Rattle.standard.specs.Reading.{pieces_from, pieces, Reading, joined}
 use Rattle.standard.proofs.Bounds.{pieces_unfold, pieces_induction}
 use Rattle.standard.proofs.PieceSize.{piece-size}
 use Rattle.standard.proofs.Joining.{numbers-length}
-use Rattle.checker.specs.declared.meeting.Met.{Met}
+use Rattle.checker.specs.declared.lent.Places.{Places}
 use Rattle.checker.specs.declared.rows.Joint.{Joint}
-use Rattle.checker.specs.declared.rows.Judged.{Judged}
-use Rattle.checker.specs.Transcript.{row, left, total, reached, right, wrong}
+use Rattle.checker.specs.declared.rows.Reason.TheVariants.{NoSource, NoPieceEnd, TextDiffers, ErrorsDiffer}
+use Rattle.checker.specs.Transcript.{Row, left, total, reached, wrong}
 use Rattle.checker.specs.Spans.{PlainRow}
-use Rattle.checker.specs.Meeting.{so_far, Joins, ByteRow, left_at, Judges}
+use Rattle.checker.specs.Meeting.{Joins, ByteRow, IsWithin, IsWrong, LeadsTo}
+use Rattle.checker.proofs.Meetings.{met_some, met_not, met-within}
 use Rattle.checker.proofs.Walking.{Walking, walk-byte-row, walk-run, walked}
 
 -- The pieces of a source have its bytes.
@@ -61,184 +65,186 @@ reached-rest names context s n e =
             let all : size + (suc n - size) ≡ suc n = omega arith in
             rest.1 (suc n - size) (omega arith) ∙ rw (drop-drop (suc n - size) size s, all)
 
--- A right row, and the places after it.
-abbrev right_to : Joint → Judged
-right_to j = record { reason = right; at = j.at; text = j.text.at; errors = j.errors.at }
-
--- What the pieces give that n source bytes reach into from at on.
-abbrev given : List Name → Context → (source : List ℕ) (at n : ℕ) → Reading
-given names context s at n = joined at (reached n (pieces names context (drop at s)))
-
--- A row that has bytes, and not more than are left, passes a.
-passes-a : (names : List Name) (context : Context) (s : List ℕ) (at n : ℕ) → n ≢ 0 → n ≤ length s - at
-    → eqb n 0 || ltb (total (pieces names context (drop at s))) n ≡ false
-passes-a names context s at n some fits =
-    rw (ne_eqb n 0 some, pieces-total names context (drop at s), length-drop at s) (le-ltb (length s - at) n fits)
-
--- What was met of the bytes from at to at + n is what was met of n bytes.
-met : {ps : List Piece} {at : ℕ} (n : ℕ) {text errors : List ℕ} {t e : Met} {joint : Joint} → Joins ps at (at + n - at) text t errors e joint
-    → Joins ps at n text t errors e joint
-met {at = at} n joins = let same : at + n - at ≡ n = omega arith in rw same at joins
-
--- Where the pieces end with the row they have its bytes.
-bytes : {ps : List Piece} {at n : ℕ} {text errors : List ℕ} {t e : Met} {joint : Joint} → Joins ps at n text t errors e joint → joint.at ≡ at + n
-    → total (reached n ps) ≡ n
-bytes j ends = omega (arith, j.at_is, ends)
-
--- Where their text comes, and is as long as the row says, the row passes c.
-passes_c : {ps : List Piece} {at n : ℕ} {text errors : List ℕ} {e : Met} {joint : Joint} (t m : ℕ) → Joins ps at n text (so_far t) errors e joint
-    → joint.text.right ≡ true → joint.text.at - t ≡ m
-    → eqb (length (joined at (reached n ps)).text) m && stands (joined at (reached n ps)).text (drop t text) ≡ true
-passes_c {ps} {at} {n} t m j sound count =
-    rw (eq-eqb (length (joined at (reached n ps)).text) m (omega (arith, j.text_met.at_is sound)), sym j.text_met.right_is ∙ sound) refl
-
--- Where their errors come these end after two numbers each.
-errors-end : {ps : List Piece} {at n : ℕ} {text errors : List ℕ} {t : Met} {joint : Joint} (e : ℕ) → Joins ps at n text t errors (so_far e) joint
-    → joint.errors.right ≡ true → joint.errors.at ≡ e + 2 * length (joined at (reached n ps)).errors
-errors-end {ps} {at} {n} e j sound = omega (arith, j.errors_met.at_is sound, numbers-length (joined at (reached n ps)).errors)
-
--- Before the first piece of a row of n source bytes.
-start : (names : List Name) (context : Context) (s : List ℕ) (at : ℕ) (text : List ℕ) (t : ℕ) (errors : List ℕ) (e n : ℕ) → at ≤ length s
-    → t ≤ length text → e ≤ length errors
-    → Walking names context s (at + n) text errors
-    (Joins (pieces names context (drop at s)) at (at + n - at) text (so_far t) errors (so_far e)) at (so_far t) (so_far e)
-start names context s at text t errors e n there text_there errors_there =
-    record { there = there; text_there = text_there; errors_there = errors_there; rest = λ r j. j }
-
--- A row of n source bytes, m text bytes and k errors, judged from the places at, t and e on: it is wrong for a reason, or right.
-module _ {names : List Name} {context : Context} {s : List ℕ} {at : ℕ} {text : List ℕ} {t : ℕ} {errors : List ℕ} {e n m k : ℕ} where
-  wrong_for : (reason : ℕ) {r : Judged} → r.reason ≡ reason → 0 < reason → reason ≡ wrong (left_at names context s at text t errors e) (row n m k)
-      → Judges names context s at text t errors e (row n m k) r
-  wrong_for reason is some why = record { reason_is = is ∙ why; leaves = λ z. absurd (omega arith); there = λ z. absurd (omega arith) }
-
-  -- It has no source bytes.
-  pub judged_empty : {r : Judged} → n ≡ 0 → r.reason ≡ 1 → Judges names context s at text t errors e (row n m k) r
+-- A row that has no source bytes, or goes past the covered part.
+module _ {names : List Name} {context : Context} {s text errors : List ℕ} {from : Places} {w : Row} where
+  pub row_empty : w.source ≡ 0 → IsWrong names context s text errors from w NoSource
   unfolding wrong
-  judged_empty none is = wrong_for 1 is (omega arith) (rw (eq-eqb n 0 none))
+  row_empty none = record { reason_is = rw (eq-eqb w.source 0 none) }
 
-  module _ (some : n ≢ 0) where
-    -- It goes past the covered part.
-    pub judged_past : {r : Judged} → length s - at < n → r.reason ≡ 1 → Judges names context s at text t errors e (row n m k) r
+  pub row_past : w.source ≢ 0 → length s - from.source < w.source → IsWrong names context s text errors from w NoSource
+  unfolding wrong
+  row_past some h = record {
+    reason_is =
+        rw (
+          ne_eqb w.source 0 some,
+          pieces-total names context (drop from.source s),
+          length-drop from.source s,
+          lt-ltb (length s - from.source) w.source h,
+        );
+  }
+
+-- A row that has bytes, and not more than are left, and what was met of them.
+pub record RowMet (names : List Name) (context : Context) (s text errors : List ℕ) (from : Places) (w : Row) (joint : Joint) : Type 0 where
+  pub some : w.source ≢ 0
+  pub fits : w.source ≤ length s - from.source
+  pub joins : Joins (pieces names context (drop from.source s)) from.source (from.source + w.source - from.source) text (Some from.text) errors
+      (Some from.errors) joint
+
+module _ {names : List Name} {context : Context} {s text errors : List ℕ} {from : Places} {w : Row} {joint : Joint}
+    (m : RowMet names context s text errors from w joint) where
+  -- The pieces that the row reaches into, and what they give.
+  abbrev into : List Piece
+  into = reached w.source (pieces names context (drop from.source s))
+
+  abbrev given : Reading
+  given = joined from.source into
+
+  row_met : Joins (pieces names context (drop from.source s)) from.source w.source text (Some from.text) errors (Some from.errors) joint
+  row_met = let same : from.source + w.source - from.source ≡ w.source = omega arith in rw same at m.joins
+
+  passes-a : eqb w.source 0 || ltb (total (pieces names context (drop from.source s))) w.source ≡ false
+  passes-a =
+      rw (ne_eqb w.source 0 m.some, pieces-total names context (drop from.source s), length-drop from.source s)
+      (le-ltb (length s - from.source) w.source m.fits)
+
+  -- It ends inside a piece.
+  pub row_inside : joint.at ≢ from.source + w.source → IsWrong names context s text errors from w NoPieceEnd
+  unfolding wrong
+  row_inside other = record { reason_is = rw (passes-a, ne_eqb (total into) w.source (λ z. other (omega (arith, row_met.at_is, z)))) }
+
+  module _ (ends : joint.at ≡ from.source + w.source) where
+    -- The pieces have its bytes.
+    bytes : total into ≡ w.source
+    bytes = omega (arith, row_met.at_is, ends)
+
+    -- Its text is another.
+    pub row_text : joint.text ≡ None → IsWrong names context s text errors from w TextDiffers
     unfolding wrong
-    judged_past h is =
-        wrong_for 1 is (omega arith)
-        (rw (ne_eqb n 0 some, pieces-total names context (drop at s), length-drop at s, lt-ltb (length s - at) n h))
+    row_text f = record {
+      reason_is =
+          rw (
+            passes-a,
+            eq-eqb (total into) w.source bytes,
+            met_not given.text text from.text (sym row_met.text_is ∙ f),
+            and-false (eqb (length given.text) w.text),
+          );
+    }
 
-    module _ (fits : n ≤ length s - at) {joint : Joint}
-        (joins : Joins (pieces names context (drop at s)) at (at + n - at) text (so_far t) errors (so_far e) joint) where
-      -- It ends inside a piece.
-      pub judged_inside : {r : Judged} → joint.at ≢ at + n → r.reason ≡ 2 → Judges names context s at text t errors e (row n m k) r
+    module _ {text-end : ℕ} (texts : joint.text ≡ Some text-end) where
+      text_met : (stands given.text (drop from.text text) ≡ true) × (from.text + length given.text ≡ text-end)
+      text_met = met_some given.text text from.text (sym row_met.text_is ∙ texts)
+
+      -- It has another length.
+      pub row_text_count : text-end - from.text ≢ w.text → IsWrong names context s text errors from w TextDiffers
       unfolding wrong
-      judged_inside other is =
-          wrong_for 2 is (omega arith)
-          (rw (
-            passes-a names context s at n some fits,
-            ne_eqb (total (reached n (pieces names context (drop at s)))) n
-                (λ z. other (omega (arith, (met n joins).at_is, z))),
-          ))
+      row_text_count other = record {
+        reason_is =
+            rw (
+              passes-a,
+              eq-eqb (total into) w.source bytes,
+              ne_eqb (length given.text) w.text (λ z. other (omega (arith, text_met, z))),
+            );
+      }
 
-      module _ (ends : joint.at ≡ at + n) where
-        -- Its text is another.
-        pub judged_text : {r : Judged} → joint.text.right ≡ false → r.reason ≡ 3 → Judges names context s at text t errors e (row n m k) r
+      module _ (count : text-end - from.text ≡ w.text) where
+        passes_c : eqb (length given.text) w.text && stands given.text (drop from.text text) ≡ true
+        passes_c = rw (eq-eqb (length given.text) w.text (omega (arith, text_met)), text_met.0) refl
+
+        -- Its errors are others.
+        pub row_errors : joint.errors ≡ None → IsWrong names context s text errors from w ErrorsDiffer
         unfolding wrong
-        judged_text f is =
-            let j = met n joins in
-            wrong_for 3 is (omega arith)
-            (rw (
-              passes-a names context s at n some fits,
-              eq-eqb (total (reached n (pieces names context (drop at s)))) n (bytes j ends),
-              sym j.text_met.right_is ∙ f,
-              and-false (eqb (length (given names context s at n).text) m),
-            ))
+        row_errors f = record {
+          reason_is =
+              rw (
+                passes-a,
+                eq-eqb (total into) w.source bytes,
+                passes_c,
+                met_not (numbers given.errors) errors from.errors (sym row_met.errors_is ∙ f),
+                and-false (eqb (length given.errors) w.errors),
+              );
+        }
 
-        module _ (texts : joint.text.right ≡ true) where
-          -- It has another length.
-          pub judged_text_count : {r : Judged} → joint.text.at - t ≢ m → r.reason ≡ 3 → Judges names context s at text t errors e (row n m k) r
+        module _ {errors-end : ℕ} (sound : joint.errors ≡ Some errors-end) where
+          errors_met : (stands (numbers given.errors) (drop from.errors errors) ≡ true) × (from.errors + 2 * length given.errors ≡ errors-end)
+          errors_met =
+              let k = met_some (numbers given.errors) errors from.errors (sym row_met.errors_is ∙ sound) in
+              (k.0, omega (arith, k.1, numbers-length given.errors))
+
+          -- They are more or fewer.
+          pub row_errors_count : errors-end - from.errors ≢ 2 * w.errors → IsWrong names context s text errors from w ErrorsDiffer
           unfolding wrong
-          judged_text_count other is =
-              let j = met n joins in
-              wrong_for 3 is (omega arith)
-              (rw (
-                passes-a names context s at n some fits,
-                eq-eqb (total (reached n (pieces names context (drop at s)))) n (bytes j ends),
-                ne_eqb (length (given names context s at n).text) m (λ z. other (omega (arith, j.text_met.at_is texts, z))),
-              ))
+          row_errors_count other = record {
+            reason_is =
+                rw (
+                  passes-a,
+                  eq-eqb (total into) w.source bytes,
+                  passes_c,
+                  ne_eqb (length given.errors) w.errors (λ z. other (omega (arith, errors_met, z))),
+                );
+          }
 
-          module _ (count : joint.text.at - t ≡ m) where
-            -- Its errors are others.
-            pub judged_errors : {r : Judged} → joint.errors.right ≡ false → r.reason ≡ 4 → Judges names context s at text t errors e (row n m k) r
-            unfolding wrong
-            judged_errors f is =
-                let j = met n joins in
-                wrong_for 4 is (omega arith)
-                (rw (
-                  passes-a names context s at n some fits,
-                  eq-eqb (total (reached n (pieces names context (drop at s)))) n (bytes j ends),
-                  passes_c t m j texts count,
-                  sym j.errors_met.right_is ∙ f,
-                  and-false (eqb (length (given names context s at n).errors) k),
-                ))
+          -- All is right.
+          pub row_right : errors-end - from.errors ≡ 2 * w.errors → IsWithin s text errors from
+              → LeadsTo names context s text errors from w (record { source = joint.at; text = text-end; errors = errors-end })
+          unfolding wrong
+          row_right numbers-count there = record {
+            is_right =
+                rw (
+                  passes-a,
+                  eq-eqb (total into) w.source bytes,
+                  passes_c,
+                  eq-eqb (length given.errors) w.errors (omega (arith, errors_met)),
+                  errors_met.0,
+                );
+            leaves = λ i. left (sym ends i) (left_pieces i) (left_text i) (left_errors i);
+            on = omega (arith, m.some);
+            there = record {
+              source_there = omega (arith, there.source_there, m.fits);
+              text_there = (met-within given.text text from.text there.text_there (sym row_met.text_is ∙ texts)).1;
+              errors_there = (met-within (numbers given.errors) errors from.errors there.errors_there (sym row_met.errors_is ∙ sound)).1;
+            };
+          }
+            where
+              left_pieces : drop (length into) (pieces names context (drop from.source s)) ≡ pieces names context (drop joint.at s)
+              left_pieces = reached-rest names context (drop from.source s) w.source bytes ∙ rw (drop-drop w.source from.source s, ends)
 
-            module _ (sound : joint.errors.right ≡ true) where
-              -- They are more or fewer.
-              pub judged_errors_count : {r : Judged} → joint.errors.at - e ≢ 2 * k → r.reason ≡ 4
-                  → Judges names context s at text t errors e (row n m k) r
-              unfolding wrong
-              judged_errors_count other is =
-                  let j = met n joins in
-                  wrong_for 4 is (omega arith)
-                  (rw (
-                    passes-a names context s at n some fits,
-                    eq-eqb (total (reached n (pieces names context (drop at s)))) n (bytes j ends),
-                    passes_c t m j texts count,
-                    ne_eqb (length (given names context s at n).errors) k (λ z. other (omega (arith, errors-end e j sound, z))),
-                  ))
+              left_text : drop w.text (drop from.text text) ≡ drop text-end text
+              left_text =
+                  let end : from.text + w.text ≡ text-end = omega (arith, text_met) in
+                  drop-drop w.text from.text text ∙ ap (λ (i : ℕ). drop i text) end
 
-              -- All is right.
-              pub judged_right : joint.errors.at - e ≡ 2 * k → at ≤ length s
-                  → Judges names context s at text t errors e (row n m k) (right_to joint)
-              unfolding wrong
-              judged_right numbers-count there =
-                  let j = met n joins in
-                  record {
-                    reason_is =
-                        rw (
-                          passes-a names context s at n some fits,
-                          eq-eqb (total (reached n (pieces names context (drop at s)))) n (bytes j ends),
-                          passes_c t m j texts count,
-                          eq-eqb (length (given names context s at n).errors) k (omega (arith, errors-end e j sound)),
-                          sym j.errors_met.right_is ∙ sound,
-                        );
-                    leaves = λ z i. left (sym ends i) (left_pieces i) (left_text i) (left_errors i);
-                    there = λ z. (omega arith, omega arith, j.text_met.there, j.errors_met.there);
-                  }
-                where
-                  left_pieces : drop (length (reached n (pieces names context (drop at s)))) (pieces names context (drop at s))
-                      ≡ pieces names context (drop joint.at s)
-                  left_pieces = reached-rest names context (drop at s) n (bytes (met n joins) ends) ∙ rw (drop-drop n at s, ends)
+              left_errors : drop (2 * w.errors) (drop from.errors errors) ≡ drop errors-end errors
+              left_errors =
+                  let end : from.errors + 2 * w.errors ≡ errors-end = omega (arith, errors_met) in
+                  drop-drop (2 * w.errors) from.errors errors ∙ ap (λ (i : ℕ). drop i errors) end
 
-                  left_text : drop m (drop t text) ≡ drop joint.text.at text
-                  left_text =
-                      let end : t + m ≡ joint.text.at = omega (arith, (met n joins).text_met.at_is texts) in
-                      drop-drop m t text ∙ ap (λ (i : ℕ). drop i text) end
+-- Before the first piece of a row.
+start : {names : List Name} {context : Context} {s text errors : List ℕ} {from : Places} (w : Row) → IsWithin s text errors from
+    → Walking names context s (from.source + w.source) text errors
+    (Joins (pieces names context (drop from.source s)) from.source (from.source + w.source - from.source) text (Some from.text) errors
+    (Some from.errors)) from.source (Some from.text) (Some from.errors)
+start w there = record {
+  there = there.source_there;
+  text_there = λ i e. omega (arith, there.text_there, same_Some _ _ e);
+  errors_there = λ i e. omega (arith, there.errors_there, same_Some _ _ e);
+  rest = λ r j. j;
+}
 
-                  left_errors : drop (2 * k) (drop e errors) ≡ drop joint.errors.at errors
-                  left_errors =
-                      let end : e + 2 * k ≡ joint.errors.at = omega (arith, errors-end e (met n joins) sound) in
-                      drop-drop (2 * k) e errors ∙ ap (λ (i : ℕ). drop i errors) end
+module _ {names : List Name} {context : Context} {s text errors : List ℕ} {from : Places} {w : Row}
+    (fits : w.source ≤ length s - from.source) (there : IsWithin s text errors from) where
+  -- A row of bytes that the text has too.
+  pub row_plain : w.source ≢ 0 → PlainRow s from.source w.source text from.text w.text w.errors
+      → LeadsTo names context s text errors from w
+      (record { source = from.source + w.source; text = from.text + w.source; errors = from.errors })
+  row_plain some p =
+      let joins = walked (walk-run (start w there) w.source (omega arith) (omega (arith, there.source_there)) p.there p.same) (omega arith) in
+      row_right (record { some = some; fits = fits; joins = joins }) refl refl (omega (arith, p.bytes)) refl (omega (arith, p.no_errors)) there
 
-  -- It is of bytes that the text has too.
-  pub judged_plain : n ≢ 0 → n ≤ length s - at → at ≤ length s → e ≤ length errors → PlainRow s at n text t m k
-      → Judges names context s at text t errors e (row n m k) (record { reason = right; at = at + n; text = t + n; errors = e })
-  judged_plain some fits there errors_there p =
-      let before = start names context s at text t errors e n there (omega (arith, p.there)) errors_there in
-      let joins = walked (walk-run before n (omega arith) (omega arith) p.there p.same) (omega arith) in
-      judged_right some fits joins refl refl (omega (arith, p.bytes)) refl (omega (arith, p.no_errors)) there
-
-  -- It is one byte that stands for itself.
-  pub judged_byte : n ≢ 0 → n ≤ length s - at → at ≤ length s → e ≤ length errors → ByteRow s at n text t m errors e k
-      → Judges names context s at text t errors e (row n m k) (record { reason = right; at = at + 1; text = t + 1; errors = e + 2 * k })
-  judged_byte some fits there errors_there p =
-      let before = start names context s at text t errors e n there (omega (arith, p.there)) errors_there in
-      let joins = walked (walk-byte-row before (omega arith) p) (omega (arith, p.source_byte)) in
-      judged_right some fits joins (omega (arith, p.source_byte)) refl (omega (arith, p.text_byte)) refl (omega arith) there
+  -- A row of one byte that stands for itself.
+  pub row_byte : {end : ℕ} → ByteRow s from.source w.source text from.text w.text errors from.errors w.errors end
+      → LeadsTo names context s text errors from w (record { source = from.source + 1; text = from.text + 1; errors = end })
+  row_byte p =
+      let some : w.source ≢ 0 = λ z. omega (arith, p.source_byte) in
+      let joins = walked (walk-byte-row (start w there) (omega (arith, there.source_there, p.source_byte)) p) (omega (arith, p.source_byte)) in
+      row_right (record { some = some; fits = fits; joins = joins }) (omega (arith, p.source_byte)) refl (omega (arith, p.text_byte)) refl
+      (omega (arith, p.count)) there

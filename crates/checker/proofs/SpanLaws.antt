@@ -1,20 +1,22 @@
 -- Runs: what holds of each of n elements, found one by one or in blocks.
 use Prim.Native.Nat.{ℕ, ◌+◌, ◌-◌, ◌*◌, ◌≤◌, ◌<◌}
-use mathlib.Core.Path.{◌≡◌, refl, sym, ◌∙◌, subst}
+use mathlib.Core.Path.{◌≡◌, sym, ◌∙◌, ap, subst}
 use mathlib.Core.List.{List}
-use mathlib.Core.Bool.{Bool, true, false, ◌&&◌}
+use mathlib.Core.Bool.{Bool, true}
 use mathlib.Core.Logic.{⊎_elim}
 use native.Mathlib.Omega.{arith}
-use lib.ListN.{length, get_or}
-use Rattle.lists.proofs.Choice.{below?, and_true}
-use Rattle.checker.specs.Spans.{ordinary, Ordinary, alike, Alike, AlikeIf, unit_row, UnitRows, PlainRows}
+use lib.ListN.{get_or, take, drop}
+use lib.Seq.{get_or-drop}
+use Rattle.std.proofs.Common.{get_or-take}
+use Rattle.lists.proofs.Choice.{below?}
+use Rattle.checker.specs.Spans.{ordinary, Ordinary, alike, Alike, unit_row, UnitRows}
 
--- Whether the i-th byte from at on is ordinary, and whether the i-th bytes are alike.
-abbrev pub ordinary_at : (end : ℕ) (s : List ℕ) (at : ℕ) → ℕ → Bool
-ordinary_at end s at i = ordinary end (get_or s (at + i) 0)
+-- Whether the i-th byte is ordinary, and whether the i-th bytes are alike.
+abbrev pub ordinary_at : (end : ℕ) (s : List ℕ) → ℕ → Bool
+ordinary_at end s i = ordinary end (get_or s i 0)
 
-abbrev pub alike_at : (s : List ℕ) (at : ℕ) (text : List ℕ) (t : ℕ) → ℕ → Bool
-alike_at s at text t i = alike (get_or s (at + i) 0) (get_or text (t + i) 0)
+abbrev pub alike_at : (s text : List ℕ) → ℕ → Bool
+alike_at s text i = alike (get_or s i 0) (get_or text i 0)
 
 -- Whether the i-th row from next on is of one byte.
 abbrev pub unit_at : (rows : List ℕ) (next : ℕ) → ℕ → Bool
@@ -24,70 +26,36 @@ unit_at rows next i = unit_row (get_or rows (next + 3 * i) 0) (get_or rows (next
 abbrev Each : (ℕ → Bool) → ℕ → Type 0
 Each p n = (i : ℕ) → i < n → p i ≡ true
 
--- Of none.
-pub each_none : (p : ℕ → Bool) → Each p 0
-each_none p i h = absurd (omega arith)
-
 -- Of n, and of m after them.
 each-join : (p : ℕ → Bool) (n m : ℕ) → Each p n → ((i : ℕ) → i < m → p (n + i) ≡ true) → Each p (n + m)
 each-join p n m first later i h =
     ⊎_elim (first i)
     (λ (k : n ≤ i). let e : n + (i - n) ≡ i = omega arith in subst (λ (j : ℕ). p j ≡ true) e (later (i - n) (omega arith))) (below? i n)
 
--- Of one more.
-pub each_more : (p : ℕ → Bool) (n : ℕ) → Each p n → p n ≡ true → Each p (n + 1)
-each_more p n first e =
-    each-join p n 1 first (λ i h. let k : n ≡ n + i = omega arith in subst (λ (j : ℕ). p j ≡ true) k e)
+-- What stands in a part of some bytes stands in all of them.
+part : (s : List ℕ) (i k j : ℕ) → j < k → get_or (take k (drop i s)) j 0 ≡ get_or s (i + j) 0
+part s i k j h = get_or-take k (drop i s) j 0 h ∙ get_or-drop i s j 0
 
--- Of n where all says so, and of one more by its test t.
-pub each_tested : (p : ℕ → Bool) (n : ℕ) {all t : Bool} → t ≡ p n → (all ≡ true → Each p n) → all && t ≡ true → Each p (n + 1)
-each_tested p n {all} {t} e first z = let w = and_true all t z in each_more p n (first w.0) (sym e ∙ w.1)
+-- Bytes of which i are ordinary, and the first n of a part after them.
+pub ordinary_on : (end : ℕ) (s : List ℕ) (i k n : ℕ) → n ≤ k → Ordinary end s i → Ordinary end (take k (drop i s)) n → Ordinary end s (i + n)
+ordinary_on end s i k n h first later =
+    each-join (ordinary_at end s) i n first
+    (λ j m. sym (ap (ordinary end) (part s i k j (omega arith))) ∙ later j m)
 
--- Bytes that are ordinary up to at, and n more.
-pub ordinary-join : (end : ℕ) (s : List ℕ) (from at n : ℕ) → from ≤ at → Ordinary end s from (at - from) → Ordinary end s at n
-    → Ordinary end s from (at + n - from)
-ordinary-join end s from at n h first later =
-    let all : at - from + n ≡ at + n - from = omega arith in
-    rw all at (each-join (ordinary_at end s from) (at - from) n first
-    (λ j k. let there : at + j ≡ from + (at - from + j) = omega arith in rw there at (later j k)))
+-- Bytes of which i are alike, and the first n of parts after them.
+pub alike_on : (s text : List ℕ) (i k m n : ℕ) → n ≤ k → n ≤ m → Alike s text i → Alike (take k (drop i s)) (take m (drop i text)) n
+    → Alike s text (i + n)
+alike_on s text i k m n h l first later =
+    each-join (alike_at s text) i n first
+    (λ j x. rw (part s i k j (omega arith), part text i m j (omega arith)) at (later j x))
 
--- The byte at at too.
-pub ordinary-one : (end : ℕ) (s : List ℕ) (from at : ℕ) → from ≤ at → Ordinary end s from (at - from) → ordinary end (get_or s at 0) ≡ true
-    → Ordinary end s from (at + 1 - from)
-ordinary-one end s from at h first e =
-    ordinary-join end s from at 1 h first (λ i k. let here : at ≡ at + i = omega arith in rw here at e)
-
--- The bytes from there to a later place too.
-pub ordinary-on : (end : ℕ) (s : List ℕ) (from at to : ℕ) → from ≤ at → at ≤ to → Ordinary end s from (at - from) → Ordinary end s at (to - at)
-    → Ordinary end s from (to - from)
-ordinary-on end s from at to h k first later =
-    let all : at + (to - at) ≡ to = omega arith in rw all at (ordinary-join end s from at (to - at) h first later)
-
--- Bytes of which i are alike, and n more.
-pub alike-join : (s : List ℕ) (at : ℕ) (text : List ℕ) (t i n : ℕ) → Alike s at text t i → Alike s (at + i) text (t + i) n
-    → Alike s at text t (i + n)
-alike-join s at text t i n first later =
-    each-join (alike_at s at text t) i n first (λ j k. let there : at + i + j ≡ at + (i + j) = omega arith in
-    let here : t + i + j ≡ t + (i + j) = omega arith in rw (there, here) at (later j k))
-
--- None, whether the text was right or not.
-pub alike_if_none : (right : Bool) (s : List ℕ) (at : ℕ) (text : List ℕ) (t : ℕ) → AlikeIf right s at text t 0
-alike_if_none true s at text t = each_none (alike_at s at text t)
-alike_if_none false s at text t = refl
+-- The first n bytes of parts are the first of what they are parts of.
+pub alike_part : (s text : List ℕ) (k m n : ℕ) → n ≤ k → n ≤ m → Alike (take k s) (take m text) n → Alike s text n
+alike_part s text k m n h l same j x =
+    rw (get_or-take k s j 0 (omega arith), get_or-take m text j 0 (omega arith)) at (same j x)
 
 -- Rows of which i are of one byte, and n more.
 pub units-join : (rows : List ℕ) (next i n : ℕ) → UnitRows rows next i → UnitRows rows (next + 3 * i) n → UnitRows rows next (i + n)
 units-join rows next i n first later =
     each-join (unit_at rows next) i n first
     (λ j k. let there : next + 3 * i + 3 * j ≡ next + 3 * (i + j) = omega arith in rw there at (later j k))
-
--- No rows are plain.
-pub plain-none : {rows : List ℕ} {next : ℕ} {s : List ℕ} {at : ℕ} {text : List ℕ} {t : ℕ} → next ≤ length rows → at ≤ length s → t ≤ length text
-    → PlainRows rows next s at text t 0
-plain-none {rows} {next} {s} {at} {text} {t} h k l = record {
-  rows_there = omega arith;
-  source_there = omega arith;
-  text_there = omega arith;
-  units = each_none (unit_at rows next);
-  same = each_none (alike_at s at text t);
-}

@@ -1,9 +1,5 @@
 -- The piece that a value of the code stands for.
-use Rattle.std.specs.Prelude.{ℕ, List, [], ◌∷◌, ◌++◌, Bool, ◌||◌, ◌&&◌, eqb, if◌then◌else◌}
-use Prim.Native.Char.{code}
-use Rattle.standard.specs.declared.Context.{Context}
-use Rattle.standard.specs.Classes.{alphanumeric}
-use Rattle.standard.specs.Contexts.{in_attribute}
+use Rattle.std.specs.Prelude.{ℕ, List, [], ◌∷◌, ◌++◌, Bool, if◌then◌else◌}
 use Rattle.standard.specs.Errors.{listed, missing_semicolon_after_character_reference}
 use Rattle.standard.specs.Pieces as standard
 use Rattle.checker.specs.declared.pieces.Piece.{Piece}
@@ -20,7 +16,3 @@ piece_of p = standard.piece p.size (standard.char_ref_text p.reference) (codes_o
 abbrev pub one_of : ℕ → ℕ → Bool → ℕ → Piece
 one_of size char unclosed error =
     record { size = size; reference = record { chars = char ∷ 0 ∷ []; num_chars = 1 }; unclosed = unclosed; code = error }
-
--- A name without `;` is no reference before c.
-abbrev pub keeps_text : Context → ℕ → Bool
-keeps_text context c = in_attribute context && (eqb c (code "=") || alphanumeric c)

@@ -1,5 +1,5 @@
 -- Bytes and rows that need no look at each character.
-use Rattle.std.specs.Prelude.{ℕ, ◌+◌, ◌*◌, ◌≤◌, ◌<◌, ◌≡◌, List, Bool, true, false, not, ◌||◌, ◌&&◌, ltb, eqb, length, get_or}
+use Rattle.std.specs.Prelude.{ℕ, ◌+◌, ◌*◌, ◌≤◌, ◌<◌, ◌≡◌, List, Bool, true, not, ◌||◌, ◌&&◌, ltb, eqb, length, get_or, drop}
 use Prim.Native.Char.{code}
 use Rattle.lists.specs.Notation.{between}
 
@@ -7,9 +7,9 @@ use Rattle.lists.specs.Notation.{between}
 abbrev pub ordinary : ℕ → ℕ → Bool
 ordinary end b = between 0x1 0x7F b && not (eqb b end)
 
--- The n bytes from at on are ordinary.
-abbrev pub Ordinary : (end : ℕ) (s : List ℕ) (at n : ℕ) → Type 0
-Ordinary end s at n = (i : ℕ) → i < n → ordinary end (get_or s (at + i) 0) ≡ true
+-- The first n bytes are ordinary.
+abbrev pub Ordinary : (end : ℕ) (s : List ℕ) (n : ℕ) → Type 0
+Ordinary end s n = (i : ℕ) → i < n → ordinary end (get_or s i 0) ≡ true
 
 -- An ASCII byte that stands for itself, with an error or without.
 abbrev pub lone : ℕ → Bool
@@ -19,21 +19,16 @@ lone b = ltb b 0x80 && not (eqb b (code "\r")) && not (eqb b (code "&"))
 abbrev pub alike : ℕ → ℕ → Bool
 alike b c = (between 0x20 0x7E b && not (eqb b (code "&")) || eqb b 0xA || eqb b 0x9) && eqb b c
 
--- The n bytes of s from at on and those of text from t on are alike.
-abbrev pub Alike : (s : List ℕ) (at : ℕ) (text : List ℕ) (t n : ℕ) → Type 0
-Alike s at text t n = (i : ℕ) → i < n → alike (get_or s (at + i) 0) (get_or text (t + i) 0) ≡ true
-
--- The same where a test holds; where it doesn't, there are none.
-abbrev pub AlikeIf : Bool → (s : List ℕ) (at : ℕ) (text : List ℕ) (t n : ℕ) → Type 0
-AlikeIf true s at text t n = Alike s at text t n
-AlikeIf false s at text t n = n ≡ 0
+-- The first n bytes of a source and of a text are alike.
+abbrev pub Alike : (s text : List ℕ) (n : ℕ) → Type 0
+Alike s text n = (i : ℕ) → i < n → alike (get_or s i 0) (get_or text i 0) ≡ true
 
 -- A row of n source bytes, m text bytes and k errors is n bytes that the text has too.
 pub record PlainRow (s : List ℕ) (at n : ℕ) (text : List ℕ) (t m k : ℕ) : Type 0 where
   pub bytes : m ≡ n
   pub no_errors : k ≡ 0
   pub there : t + n ≤ length text
-  pub same : Alike s at text t n
+  pub same : Alike (drop at s) (drop t text) n
 
 -- A row of one source byte, one text byte and no errors.
 abbrev pub unit_row : (n m k : ℕ) → Bool
@@ -50,4 +45,4 @@ pub record PlainRows (rows : List ℕ) (next : ℕ) (s : List ℕ) (at : ℕ) (t
   pub source_there : at + n ≤ length s
   pub text_there : t + n ≤ length text
   pub units : UnitRows rows next n
-  pub same : Alike s at text t n
+  pub same : Alike (drop at s) (drop t text) n

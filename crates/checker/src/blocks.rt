@@ -1,66 +1,52 @@
 // Rows in blocks: 32 rows of one plain byte each are judged at once.
-ghost use Rattle.std.specs.Prelude.{◌≡◌, true, ◌≤◌, ◌+◌, length};
+ghost use Rattle.std.specs.Prelude.{◌≡◌, true, ◌≤◌, ◌<◌, ◌+◌, ◌^◌, length};
 ghost use Rattle.checker.specs.Spans.{unit_row, UnitRows, PlainRows};
-ghost use Rattle.checker.specs.Meeting.{lent};
 
-use crate::meeting::{count, number_at};
+use crate::lent::{Places, Row, Transcript, row_at};
+use crate::numbers::Numbers;
 use crate::spans::alike_block;
 
 // A row of one source byte, one text byte and no errors.
-fn unit(n: u32, m: u32, k: u32) -> bool
-    ensures { result ≡ unit_row n m k }
+fn unit(row: Row) -> bool
+    ensures { result ≡ unit_row row.source row.text row.errors }
 {
-    (n == 1) & (m == 1) & (k == 0)
+    (row.source == 1) & (row.text == 1) & (row.errors == 0)
 }
 
-// Whether the 32 rows from next on have one source byte, one text byte and no errors each.
-fn unit_rows(rows: &[u32], row_bytes: &[u8], next: usize) -> bool
-    requires { next + 96 ≤ length (lent rows.now row_bytes.now) }
-    ensures { result ≡ true → UnitRows (lent rows.now row_bytes.now) next 32 }
+// Whether the 32 rows from first on have one source byte, one text byte and no errors each.
+fn unit_rows<N: Numbers>(rows: N, first: usize) -> bool
+    requires there { first + 96 ≤ length (N.list rows) }
+    requires fits { first + 96 < 2 ^ 64 }
+    ensures { result ≡ true → UnitRows (N.list rows) first 32 }
 {
     let mut all = true;
-    let mut i: usize = 0;
-    while i < 32 {
-        let at = next + 3 * i;
-        let n = number_at(rows, row_bytes, at);
-        let m = number_at(rows, row_bytes, at + 1);
-        let k = number_at(rows, row_bytes, at + 2);
-        all = all & unit(n, m, k);
-        i += 1;
+    for i in 0..32usize {
+        all &= unit(row_at(rows, first + 3 * i));
     }
     all
 }
 
-// How many rows from next on, in blocks of 32, are one byte each that the text has too; none where rows are judged singly.
-pub(crate) fn plain_rows(
-    singly: u8,
-    rows: &[u32],
-    row_bytes: &[u8],
-    next: usize,
-    s: &[u8],
-    at: usize,
-    text: &[u8],
-    t: usize,
+// How many rows from first on, in blocks of 32, are one byte each that the text has too.
+pub(crate) fn plain_rows<N: Numbers>(
+    covered: &[u8],
+    transcript: &Transcript<N>,
+    from: Places,
+    first: usize,
 ) -> usize
-    requires { (next ≤ length (lent rows.now row_bytes.now)) × (at ≤ length s.now) × (t ≤ length text.now) }
-    ensures { PlainRows (lent rows.now row_bytes.now) next s.now at text.now t result }
+    requires rows { first ≤ length (N.list transcript.now.rows) }
+    requires source { from.source ≤ length covered.now }
+    requires text { from.text ≤ length transcript.now.text.now }
+    ensures { PlainRows (N.list transcript.now.rows) first covered.now from.source transcript.now.text.now from.text result }
 {
-    if singly != 0 {
-        return 0;
-    }
-    let numbers = count(rows, row_bytes);
+    let source = &covered[from.source..];
+    let text = &transcript.text[from.text..];
+    let numbers = transcript.rows.count() - first;
     let mut i: usize = 0;
-    while 96 <= numbers - next - 3 * i {
-        if s.len() - at - i < 32 {
+    while (96 <= numbers - 3 * i) && (32 <= source.len() - i) && (32 <= text.len() - i) {
+        if !unit_rows(transcript.rows, first + 3 * i) {
             return i;
         }
-        if text.len() - t - i < 32 {
-            return i;
-        }
-        if !unit_rows(rows, row_bytes, next + 3 * i) {
-            return i;
-        }
-        if !alike_block(s, at + i, text, t + i) {
+        if !alike_block(&source[i..i + 32], &text[i..i + 32]) {
             return i;
         }
         i += 32;

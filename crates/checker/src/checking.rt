@@ -1,17 +1,18 @@
 // The check of a transcript.
-ghost use Rattle.std.specs.Prelude.{◌≡◌};
+ghost use Rattle.std.specs.Prelude.{◌≡◌, ◌≤◌};
 ghost use Rattle.standard.specs.NameList.{builtin};
 ghost use Rattle.checker.specs.Transcript.{verdict, checked, checked_of, checked_bytes};
-ghost use Rattle.checker.specs.Meeting.{lent};
+ghost use Rattle.checker.specs.Meeting.{stop_at};
 
-use crate::meeting::count;
-use crate::stops::find_stop;
+use crate::lent::{Source, Transcript};
+use crate::numbers::Numbers;
+use crate::stops::{Fault, find_stop};
 use crate::verdicts::judge;
 use standard::Context;
-use standard::table::builtin_names;
+use standard::table::builtin_table;
 
 // The answer; with 0 the verdict, 0 or a reason from 1 to 5 for a to e, and the row; with 1 and 2 the place.
-#[derive(Clone, Copy)]
+#[derive(Clone, Copy, PartialEq, Eq, Debug)]
 pub struct Checked {
     pub answer: u32,
     pub verdict: u32,
@@ -31,50 +32,48 @@ fn refused(answer: u32, place: u32) -> Checked
     }
 }
 
-// Judges a transcript whose rows and errors are lent as words or as bytes.
-fn check_numbers(
-    context: Context,
-    source: &[u8],
-    rows: &[u32],
-    row_bytes: &[u8],
-    text: &[u8],
-    errors: &[u32],
-    error_bytes: &[u8],
-) -> Checked
-    ensures { result ≡ checked_of builtin context source.now (lent rows.now row_bytes.now)
-        text.now (lent errors.now error_bytes.now) }
+// The answer to a fault.
+fn stopped(fault: Fault) -> Checked
+    requires { (stop_at fault).place ≤ 65536 }
+    ensures { result ≡ checked (stop_at fault).answer (verdict 0 0) (stop_at fault).place }
+{
+    match fault {
+        Fault::IllFormed(place) => refused(1, place as u32),
+        Fault::Nul(place) => refused(2, place as u32),
+    }
+}
+
+// Judges a transcript, however its rows and errors are lent.
+fn check_numbers<N: Numbers>(context: Context, source: &[u8], transcript: &Transcript<N>) -> Checked
+    ensures { result ≡ checked_of builtin context source.now (N.list transcript.now.rows)
+        transcript.now.text.now (N.list transcript.now.errors) }
 {
     if 65536 < source.len() {
         return refused(3, 0);
     }
-    if count(rows, row_bytes) % 3 != 0 {
+    if transcript.rows.count() % 3 != 0 {
         return refused(10, 0);
     }
-    if count(errors, error_bytes) % 2 != 0 {
+    if transcript.errors.count() % 2 != 0 {
         return refused(10, 0);
     }
-    let fault = find_stop(context, source);
-    let answer = fault.answer;
-    let place = fault.place;
-    let readable = (answer == 0) | (answer == 7);
-    if !readable {
-        return refused(answer, place as u32);
-    }
-    let table = builtin_names();
-    let verdict = judge(
-        &table,
+    let end = match find_stop(context, source) {
+        Ok(end) => end,
+        Err(fault) => return stopped(fault),
+    };
+    let covered = Source {
+        table: builtin_table(),
         context,
-        &source[..place],
-        rows,
-        row_bytes,
-        text,
-        errors,
-        error_bytes,
-    );
+        covered: &source[..end],
+    };
+    let (verdict, row) = match judge(&covered, transcript) {
+        Ok(()) => (0, 0),
+        Err(wrong) => (wrong.reason.number(), wrong.row),
+    };
     Checked {
         answer: 0,
-        verdict: verdict.reason,
-        row: verdict.row,
+        verdict,
+        row,
         place: 0,
     }
 }
@@ -83,8 +82,7 @@ fn check_numbers(
 pub fn check(context: Context, source: &[u8], rows: &[u32], text: &[u8], errors: &[u32]) -> Checked
     ensures { result ≡ checked_of builtin context source.now rows.now text.now errors.now }
 {
-    let none = &source[..0];
-    check_numbers(context, source, rows, none, text, errors, none)
+    check_numbers(context, source, &Transcript { rows, text, errors })
 }
 
 // The same where rows and errors are bytes, four a number, the lowest first.
@@ -106,7 +104,5 @@ pub fn check_bytes(
     if errors.len() % 4 != 0 {
         return refused(10, 0);
     }
-    let zero: [u32; 1] = [0];
-    let none = &zero[..0];
-    check_numbers(context, source, none, rows, text, none, errors)
+    check_numbers(context, source, &Transcript { rows, text, errors })
 }

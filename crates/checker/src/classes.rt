@@ -1,46 +1,28 @@
 // Bytes and characters, by document 01's lists.
-ghost use Rattle.std.specs.Prelude.{◌≡◌, ◌<◌, get_or};
+ghost use Rattle.std.specs.Prelude.{◌≡◌, drop};
+ghost use Rattle.lists.specs.Notation.{next};
 ghost use Rattle.standard.specs.Classes as standard;
 ghost use Rattle.standard.specs.Numbers.{digit_of};
 
-// A byte as a number.
-pub(crate) fn wide(b: u8) -> u32
-    ensures { (result ≡ b) × (result < 256) }
+// Whether the byte b stands at a place.
+pub(crate) fn next_is(s: &[u8], at: usize, b: u8) -> bool
+    ensures { result ≡ next b (drop at s.now) }
 {
-    b as u32
+    s.get(at) == Some(&b)
 }
 
-// The byte at a place; past the end, a number that no byte is.
-pub(crate) fn peek(s: &[u8], at: usize) -> u32
-    ensures { result ≡ get_or s.now at 256 }
+// What a byte counts as a digit; 16 where it is none, which is a digit of no base.
+#[tactic(auto, unfolding(standard::specs::Numbers::digit_of))]
+pub(crate) fn digit_of(b: u8) -> u32
+    ensures { result ≡ digit_of b }
 {
-    if at < s.len() {
-        return wide(s[at]);
-    }
-    256
-}
-
-// An ASCII letter or digit.
-pub(crate) fn letter_or_digit(c: u32) -> bool
-    ensures { result ≡ standard.alphanumeric c }
-{
-    ((0x30 <= c) & (c <= 0x39)) | ((0x41 <= c) & (c <= 0x5A)) | ((0x61 <= c) & (c <= 0x7A))
-}
-
-// What counts as a digit; 16 where it is none.
-pub(crate) fn digit_of(c: u32) -> u32
-    ensures { result ≡ digit_of c }
-{
-    if (0x30 <= c) & (c <= 0x39) {
-        return c - 0x30;
-    }
-    if (0x41 <= c) & (c <= 0x46) {
-        return c - 0x41 + 10;
-    }
-    if (0x61 <= c) & (c <= 0x66) {
-        return c - 0x61 + 10;
-    }
-    16
+    let digit = match b {
+        b'0'..=b'9' => b - b'0',
+        b'A'..=b'F' => b - b'A' + 10,
+        b'a'..=b'f' => b - b'a' + 10,
+        _ => 16,
+    };
+    u32::from(digit)
 }
 
 // FDD0-FDEF, and each value whose low 16 bits are FFFE or FFFF.
@@ -51,6 +33,8 @@ pub(crate) fn noncharacter(c: u32) -> bool
 }
 
 // The code of a character that stands for itself: error 5 for 01-08, 0B, 0E-1F, 7F-9F and the noncharacters.
+// A number, 0 where there is none, and not an Option: so the standard's definitions count, and the contract is an equation with them.
+#[tactic(auto, using(standard::proofs::Lists::characters))]
 pub(crate) fn character_code(c: u32) -> u32
     ensures { result ≡ standard.character_code c }
 {

@@ -4,7 +4,9 @@
 mod blocks;
 mod checking;
 mod classes;
+mod lent;
 mod meeting;
+mod numbers;
 mod pieces;
 mod references;
 mod rows;

@@ -3,7 +3,7 @@ ghost use Rattle.std.specs.Prelude.{◌≡◌, ◌≤◌, ◌+◌, ◌*◌, min,
 ghost use Rattle.lists.specs.Notation.{front};
 ghost use Rattle.standard.specs.Numbers.{is_digit, number, replacements, replaced_by, meaning_of};
 
-use crate::classes::{digit_of, noncharacter, peek};
+use crate::classes::{digit_of, noncharacter};
 
 // Digits that were read: the place after them, and their number, or the first past the last code point where it is larger.
 #[derive(Clone, Copy)]
@@ -14,36 +14,40 @@ pub(crate) struct Digits {
 
 // A number with one digit more, or the first past the last code point where that is larger.
 fn extended(value: u32, base: u32, digit: u32) -> u32
-    requires { (value ≤ 0x110000) × (base ≤ 16) × (digit ≤ 16) }
+    requires value { value ≤ 0x110000 }
+    requires base { base ≤ 16 }
+    requires digit { digit ≤ 16 }
     ensures { result ≡ min (value * base + digit) 0x110000 }
 {
-    let next = value * base + digit;
-    if 0x110000 <= next {
-        return 0x110000;
-    }
-    next
+    (value * base + digit).min(0x110000)
 }
 
 // As many digits of the base as stand from `from` on.
 pub(crate) fn digits_from(s: &[u8], from: usize, base: u32) -> Digits
-    requires { (from ≤ length s.now) × (base ≤ 16) }
-    ensures { (result.end ≡ from + length (front (is_digit base) (drop from s.now)))
-        × (result.value ≡ min (number base (front (is_digit base) (drop from s.now))) 0x110000) }
+    requires there { from ≤ length s.now }
+    requires base { base ≤ 16 }
+    ensures end { result.end ≡ from + length (front (is_digit base) (drop from s.now)) }
+    ensures value { result.value ≡ min (number base (front (is_digit base) (drop from s.now))) 0x110000 }
 {
-    let mut end = from;
     let mut value: u32 = 0;
-    while end < s.len() {
-        let digit = digit_of(peek(s, end));
+    for (i, b) in s[from..].iter().enumerate() {
+        let digit = digit_of(*b);
         if base <= digit {
-            return Digits { end, value };
+            return Digits {
+                end: from + i,
+                value,
+            };
         }
         value = extended(value, base, digit);
-        end += 1;
     }
-    Digits { end, value }
+    Digits {
+        end: s.len(),
+        value,
+    }
 }
 
 // The C1 table; a number that it does not have stands for itself.
+#[tactic(auto, unfolding(standard::specs::Numbers::replacements, standard::specs::Numbers::replaced_by))]
 fn c1(n: u32) -> u32
     ensures { result ≡ replaced_by replacements n }
 {
@@ -87,8 +91,10 @@ pub(crate) struct Meant {
 }
 
 // 0, D800-DFFF and above 10FFFF give U+FFFD; 80-9F go through the table; 01-08, 0B, 0D-1F, 7F and the noncharacters keep their value.
+#[tactic(auto, using(standard::proofs::Lists::meanings, standard::proofs::Lists::c1_line_lem), unfolding(standard::proofs::Lists::meaning_listed))]
 pub(crate) fn meaning(n: u32) -> Meant
-    ensures { (result.char ≡ (meaning_of n).char) × (result.code ≡ (meaning_of n).code) }
+    ensures char { result.char ≡ (meaning_of n).char }
+    ensures code { result.code ≡ (meaning_of n).code }
 {
     if (n == 0) | ((0xD800 <= n) & (n <= 0xDFFF)) | (0x10FFFF < n) {
         return Meant {

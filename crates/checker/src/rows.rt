@@ -1,264 +1,187 @@
 // A row of a transcript, judged by its pieces.
-ghost use Rattle.std.specs.Prelude.{◌≡◌, true, ◌≤◌, ◌<◌, ◌+◌, ◌-◌, length, drop};
+ghost use Rattle.std.specs.Prelude.{◌≡◌, true, ◌≤◌, ◌<◌, ◌+◌, ◌-◌, Some, IfOk, IfErr, IfSome, length, drop};
 ghost use Rattle.standard.specs.Names.{records};
 ghost use Rattle.standard.specs.Reading.{pieces};
-ghost use Rattle.checker.specs.Transcript.{row};
 ghost use Rattle.checker.specs.Spans as spec;
-ghost use Rattle.checker.specs.Meeting.{lent, so_far, Joins, ByteRow, Judges};
+ghost use Rattle.checker.specs.Meeting.{row_of, number_of, Joins, ByteRow, IsWithin, IsWrong, LeadsTo};
 
-use crate::classes::{character_code, peek, wide};
-use crate::meeting::{Met, meet_codes, meet_text};
+use crate::classes::character_code;
+use crate::lent::{Places, Row, Source, Transcript};
+use crate::meeting::{meet_code, meet_codes, meet_text};
+use crate::numbers::Numbers;
 use crate::pieces::piece_at;
-use crate::spans::{alike, alike_run};
-use standard::Context;
+use crate::spans::alike_front;
 
-// The pieces of a row: the place after them, and their text and errors as they were met.
+// Why a row is wrong, or what else is wrong with a transcript: a to e of document 01, by their numbers.
+#[derive(Clone, Copy, PartialEq, Eq, Debug)]
+pub(crate) enum Reason {
+    NoSource = 1,
+    NoPieceEnd = 2,
+    TextDiffers = 3,
+    ErrorsDiffer = 4,
+    Remains = 5,
+}
+
+impl Reason {
+    // Its number.
+    pub(crate) fn number(self) -> u32
+        ensures { result ≡ number_of self }
+    {
+        self as u32
+    }
+}
+
+// The pieces of a row: the place after them, and the places after their text and their errors where these come next.
 #[derive(Clone, Copy)]
 pub(crate) struct Joint {
     pub at: usize,
-    pub text: Met,
-    pub errors: Met,
+    pub text: Option<usize>,
+    pub errors: Option<usize>,
 }
 
-// How many bytes from at on, up to n, are pieces that the text has from t on, where it was right so far.
-fn text_run(right: bool, s: &[u8], at: usize, n: usize, text: &[u8], t: usize) -> usize
-    requires { (at + n ≤ length s.now) × (at < length s.now) × (t ≤ length text.now) }
-    ensures { (result ≤ n) × (t + result ≤ length text.now) × spec.AlikeIf right s.now at text.now t result }
-{
-    if !right {
-        return 0;
-    }
-    if t == text.len() {
-        return 0;
-    }
-    if !alike(s[at], text[t]) {
-        return 0;
-    }
-    alike_run(s, at, n, text, t)
-}
-
-// Meets the pieces from `from` on, up to one that reaches end or passes it.
-fn meet_pieces(
-    table: &[u8],
-    context: Context,
-    s: &[u8],
-    from: usize,
+// Meets the pieces from a row's places on, up to one that reaches end or passes it.
+fn meet_pieces<N: Numbers>(
+    source: &Source,
+    transcript: &Transcript<N>,
+    from: Places,
     end: usize,
-    text: &[u8],
-    t: usize,
-    errors: &[u32],
-    error_bytes: &[u8],
-    e: usize,
 ) -> Joint
-    requires { (from ≤ end) × (end ≤ length s.now) × (length s.now ≤ 65536) × (t ≤ length text.now)
-        × (e ≤ length (lent errors.now error_bytes.now)) }
-    ensures { Joins (pieces (records table.now) context (drop from s.now)) from (end - from)
-        text.now (so_far t) (lent errors.now error_bytes.now) (so_far e) result }
+    requires order { from.source ≤ end }
+    requires there { end ≤ length source.now.covered.now }
+    requires within { IsWithin source.now.covered.now transcript.now.text.now (N.list transcript.now.errors) from }
+    ensures { Joins (pieces (records source.now.table.now) source.now.context (drop from.source source.now.covered.now))
+        from.source (end - from.source) transcript.now.text.now (Some from.text)
+        (N.list transcript.now.errors) (Some from.errors) result }
 {
-    let mut at = from;
-    let mut right = true;
-    let mut u = t;
-    let mut sound = true;
-    let mut v = e;
+    let table = source.table;
+    let covered = source.covered;
+    let mut at = from.source;
+    let mut text = Some(from.text);
+    let mut errors = Some(from.errors);
     while at < end {
-        let run = text_run(right, s, at, end - at, text, u);
-        let here = at + run;
-        let met = Met { right, at: u + run };
-        if here == end {
-            return Joint {
-                at: here,
-                text: met,
-                errors: Met {
-                    right: sound,
-                    at: v,
-                },
-            };
+        if let Some(t) = text {
+            let run = alike_front(&covered[at..end], &transcript.text[t..]);
+            if run != 0 {
+                at += run;
+                text = Some(t + run);
+                continue;
+            }
         }
-        let piece = piece_at(table, context, s, here);
-        let reference = piece.reference;
-        let met_text = meet_text(met, text, reference);
-        let met_errors = meet_codes(
-            Met {
-                right: sound,
-                at: v,
-            },
-            errors,
-            error_bytes,
-            piece.unclosed,
-            piece.code,
-            here as u32,
-        );
-        right = met_text.right;
-        u = met_text.at;
-        sound = met_errors.right;
-        v = met_errors.at;
-        at = here + piece.size;
+        let piece = piece_at(table, source.context, covered, at);
+        if let Some(t) = text {
+            text = meet_text(transcript.text, t, piece.reference);
+        }
+        // No `and_then` here: a proof isn't told what a closure gives that calls by the bound `Numbers`.
+        if let Some(e) = errors {
+            errors = meet_codes(transcript.errors, e, piece.unclosed, piece.code, at as u32);
+        }
+        at += piece.size;
     }
-    Joint {
-        at,
-        text: Met { right, at: u },
-        errors: Met {
-            right: sound,
-            at: v,
-        },
-    }
+    Joint { at, text, errors }
 }
 
-// Why a row is wrong, or 0, and then the places after it.
-#[derive(Clone, Copy)]
-pub(crate) struct Judged {
-    pub reason: u32,
-    pub at: usize,
-    pub text: usize,
-    pub errors: usize,
-}
-
-// A row that is wrong.
-fn wrong_for(reason: u32) -> Judged
-    ensures { result.reason ≡ reason }
+// Whether a row is of bytes that the text has too, each a piece without an error.
+fn plain_row(covered: &[u8], text: &[u8], from: Places, row: Row) -> bool
+    requires source { from.source + row.source ≤ length covered.now }
+    requires text { from.text ≤ length text.now }
+    ensures { result ≡ true → spec.PlainRow covered.now from.source row.source text.now from.text row.text row.errors }
 {
-    Judged {
-        reason,
-        at: 0,
-        text: 0,
-        errors: 0,
-    }
-}
-
-// Whether a row of n source bytes, m text bytes and k errors is as many bytes that the text has too, each a piece without an error.
-fn plain_row(s: &[u8], at: usize, n: usize, text: &[u8], t: usize, m: u32, k: u32) -> bool
-    requires { (at + n ≤ length s.now) × (t ≤ length text.now) }
-    ensures { result ≡ true → spec.PlainRow s.now at n text.now t m k }
-{
-    if (n != m as usize) | (k != 0) {
+    if (row.source != row.text) | (row.errors != 0) {
         return false;
     }
-    alike_run(s, at, n, text, t) == n
+    let size = row.source as usize;
+    alike_front(
+        &covered[from.source..from.source + size],
+        &text[from.text..],
+    ) == size
 }
 
 // An ASCII character that stands for itself, with an error or without.
-fn lone(b: u32) -> bool
+fn lone(b: u8) -> bool
     ensures { result ≡ spec.lone b }
 {
-    (b < 0x80) & (b != 0xD) & (b != 0x26)
+    (b < 0x80) & (b != b'\r') & (b != b'&')
 }
 
-// Whether a row of n source bytes, m text bytes and k errors is one lone character that the text has too, and its error, if any, is the next.
-fn byte_row(
-    s: &[u8],
-    at: usize,
-    n: usize,
-    text: &[u8],
-    t: usize,
-    m: u32,
-    errors: &[u32],
-    error_bytes: &[u8],
-    e: usize,
-    k: u32,
-) -> bool
-    requires { (at + n ≤ length s.now) × (length s.now ≤ 65536) × (e ≤ length (lent errors.now error_bytes.now)) }
-    ensures { result ≡ true → ByteRow s.now at n text.now t m
-        (lent errors.now error_bytes.now) e k }
+// Where a row is one lone character that the text has too, and its error, if any, is the next: the place after that.
+fn byte_row<N: Numbers>(
+    source: &Source,
+    transcript: &Transcript<N>,
+    from: Places,
+    row: Row,
+) -> Option<usize>
+    requires source { from.source + row.source ≤ length source.now.covered.now }
+    requires errors { from.errors ≤ length (N.list transcript.now.errors) }
+    ensures { IfSome result (λ end. ByteRow source.now.covered.now from.source row.source transcript.now.text.now
+        from.text row.text (N.list transcript.now.errors) from.errors row.errors end) }
 {
-    if (n != 1) | (m != 1) {
-        return false;
+    if (row.source != 1) | (row.text != 1) {
+        return None;
     }
-    let b = wide(s[at]);
+    let b = source.covered[from.source];
     if !lone(b) {
-        return false;
+        return None;
     }
-    if peek(text, t) != b {
-        return false;
+    if transcript.text.get(from.text) != Some(&b) {
+        return None;
     }
-    let met = meet_codes(
-        Met { right: true, at: e },
-        errors,
-        error_bytes,
-        false,
-        character_code(b),
-        at as u32,
-    );
-    if !met.right {
-        return false;
+    let code = character_code(u32::from(b));
+    let end = meet_code(transcript.errors, from.errors, code, from.source as u32)?;
+    if end - from.errors != 2 * row.errors as usize {
+        return None;
     }
-    met.at - e == 2 * (k as usize)
+    Some(end)
 }
 
-// Judges a row of n source bytes, m text bytes and k errors, from the places at, t and e on.
-pub(crate) fn judge_row(
-    table: &[u8],
-    context: Context,
-    s: &[u8],
-    at: usize,
-    text: &[u8],
-    t: usize,
-    errors: &[u32],
-    error_bytes: &[u8],
-    e: usize,
-    n: u32,
-    m: u32,
-    k: u32,
-) -> Judged
-    requires { (at ≤ length s.now) × (length s.now ≤ 65536) × (t ≤ length text.now) × (e ≤ length (lent errors.now error_bytes.now)) }
-    ensures { Judges (records table.now) context s.now at text.now t
-        (lent errors.now error_bytes.now) e (row n m k) result }
+// Judges a row from its places on: why it is wrong, or the places after it.
+pub(crate) fn judge_row<N: Numbers>(
+    source: &Source,
+    transcript: &Transcript<N>,
+    from: Places,
+    row: Row,
+) -> Result<Places, Reason>
+    requires { IsWithin source.now.covered.now transcript.now.text.now (N.list transcript.now.errors) from }
+    ensures wrong { IfErr result (λ reason. IsWrong (records source.now.table.now) source.now.context source.now.covered.now
+        transcript.now.text.now (N.list transcript.now.errors) from (row_of row) reason) }
+    ensures right { IfOk result (λ end. LeadsTo (records source.now.table.now) source.now.context source.now.covered.now
+        transcript.now.text.now (N.list transcript.now.errors) from (row_of row) end) }
 {
-    let source = n as usize;
-    if source == 0 {
-        return wrong_for(1);
+    let size = row.source as usize;
+    if size == 0 {
+        return Err(Reason::NoSource);
     }
-    if s.len() - at < source {
-        return wrong_for(1);
+    if source.covered.len() - from.source < size {
+        return Err(Reason::NoSource);
     }
-    if byte_row(s, at, source, text, t, m, errors, error_bytes, e, k) {
-        return Judged {
-            reason: 0,
-            at: at + 1,
-            text: t + 1,
-            errors: e + 2 * (k as usize),
-        };
+    if let Some(errors) = byte_row(source, transcript, from, row) {
+        return Ok(Places {
+            source: from.source + 1,
+            text: from.text + 1,
+            errors,
+        });
     }
-    if plain_row(s, at, source, text, t, m, k) {
-        return Judged {
-            reason: 0,
-            at: at + source,
-            text: t + source,
-            errors: e,
-        };
+    if plain_row(source.covered, transcript.text, from, row) {
+        return Ok(Places {
+            source: from.source + size,
+            text: from.text + size,
+            errors: from.errors,
+        });
     }
-    let joint = meet_pieces(
-        table,
-        context,
-        s,
-        at,
-        at + source,
+    let joint = meet_pieces(source, transcript, from, from.source + size);
+    if joint.at != from.source + size {
+        return Err(Reason::NoPieceEnd);
+    }
+    let text = joint.text.ok_or(Reason::TextDiffers)?;
+    if text - from.text != row.text as usize {
+        return Err(Reason::TextDiffers);
+    }
+    let errors = joint.errors.ok_or(Reason::ErrorsDiffer)?;
+    if errors - from.errors != 2 * row.errors as usize {
+        return Err(Reason::ErrorsDiffer);
+    }
+    Ok(Places {
+        source: joint.at,
         text,
-        t,
         errors,
-        error_bytes,
-        e,
-    );
-    if joint.at != at + source {
-        return wrong_for(2);
-    }
-    let met_text = joint.text;
-    if !met_text.right {
-        return wrong_for(3);
-    }
-    if met_text.at - t != m as usize {
-        return wrong_for(3);
-    }
-    let met_errors = joint.errors;
-    if !met_errors.right {
-        return wrong_for(4);
-    }
-    if met_errors.at - e != 2 * (k as usize) {
-        return wrong_for(4);
-    }
-    Judged {
-        reason: 0,
-        at: joint.at,
-        text: met_text.at,
-        errors: met_errors.at,
-    }
+    })
 }

@@ -1,12 +1,8 @@
 // Spans, in blocks: bytes that stop no reading, and bytes that a source and its text have alike. A span may end early: it spares work and settles
 // nothing. The loops over a block have no early end, so they are done many bytes at a time. The checker doesn't see the crate `runs`, which the
 // decoder has for this.
-ghost use Rattle.std.specs.Prelude.{◌≡◌, true, ◌≤◌, ◌+◌, ◌-◌, length};
-ghost use Rattle.standard.specs.Contexts.{end_byte};
+ghost use Rattle.std.specs.Prelude.{◌≡◌, true, ◌≤◌, length};
 ghost use Rattle.checker.specs.Spans as spec;
-
-use crate::stops::end_of;
-use standard::Context;
 
 // A byte that is a character of its own and stops no reading, where a source ends before end.
 fn ordinary(b: u8, end: u8) -> bool
@@ -15,110 +11,101 @@ fn ordinary(b: u8, end: u8) -> bool
     (0x1 <= b) & (b <= 0x7F) & (b != end)
 }
 
-// Whether the 64 bytes from at on are ordinary.
-fn ordinary_block(s: &[u8], at: usize, end: u8) -> bool
-    requires { at + 64 ≤ length s.now }
-    ensures { result ≡ true → spec.Ordinary end s.now at 64 }
+// Whether the 64 bytes of a block are ordinary.
+fn ordinary_block(block: &[u8], end: u8) -> bool
+    requires { length block.now ≡ 64 }
+    ensures { result ≡ true → spec.Ordinary end block.now 64 }
 {
     let mut all = true;
-    let mut i: usize = 0;
-    while i < 64 {
-        all = all & ordinary(s[at + i], end);
-        i += 1;
+    for b in block {
+        all &= ordinary(*b, end);
     }
     all
 }
 
-// The place up to which the bytes from `from` on are ordinary, byte by byte.
-fn ordinary_bytes(s: &[u8], from: usize, end: u8) -> usize
-    requires { from ≤ length s.now }
-    ensures { (from ≤ result) × (result ≤ length s.now) × spec.Ordinary end s.now from (result - from) }
+// How many bytes at the front are ordinary, byte by byte.
+fn ordinary_bytes(s: &[u8], end: u8) -> usize
+    ensures within { result ≤ length s.now }
+    ensures each { spec.Ordinary end s.now result }
 {
-    let mut at = from;
-    while at < s.len() {
-        if !ordinary(s[at], end) {
-            return at;
-        }
-        at += 1;
-    }
-    at
+    s.iter().position(|b| !ordinary(*b, end)).unwrap_or(s.len())
 }
 
 // The same, in blocks as long as they are ordinary.
-pub(crate) fn ordinary_span(context: Context, s: &[u8], from: usize) -> usize
-    requires { from ≤ length s.now }
-    ensures { (from ≤ result) × (result ≤ length s.now) × spec.Ordinary (end_byte context) s.now from (result - from) }
+pub(crate) fn ordinary_front(s: &[u8], end: u8) -> usize
+    ensures within { result ≤ length s.now }
+    ensures each { spec.Ordinary end s.now result }
 {
-    let end = end_of(context);
-    let mut at = from;
-    while 64 <= s.len() - at {
-        if !ordinary_block(s, at, end) {
-            return ordinary_bytes(s, at, end);
+    let mut i: usize = 0;
+    while 64 <= s.len() - i {
+        if !ordinary_block(&s[i..i + 64], end) {
+            break;
         }
-        at += 64;
+        i += 64;
     }
-    ordinary_bytes(s, at, end)
+    i + ordinary_bytes(&s[i..], end)
 }
 
 // A byte that is a piece and its own text, without an error, and is the byte c too.
-pub(crate) fn alike(b: u8, c: u8) -> bool
+fn alike(b: u8, c: u8) -> bool
     ensures { result ≡ spec.alike b c }
 {
     (((0x20 <= b) & (b <= 0x7E) & (b != b'&')) | (b == 0xA) | (b == 0x9)) & (b == c)
 }
 
-// Whether the 32 bytes of s from at on and those of text from t on are alike.
-pub(crate) fn alike_block(s: &[u8], at: usize, text: &[u8], t: usize) -> bool
-    requires { (at + 32 ≤ length s.now) × (t + 32 ≤ length text.now) }
-    ensures { result ≡ true → spec.Alike s.now at text.now t 32 }
+// Whether 32 bytes of a source and 32 of a text are alike.
+pub(crate) fn alike_block(source: &[u8], text: &[u8]) -> bool
+    requires source { length source.now ≡ 32 }
+    requires text { length text.now ≡ 32 }
+    ensures { result ≡ true → spec.Alike source.now text.now 32 }
 {
     let mut all = true;
-    let mut i: usize = 0;
-    while i < 32 {
-        all = all & alike(s[at + i], text[t + i]);
-        i += 1;
+    // By an index into both: of what a zip has given, a proof doesn't know that it stands at one place of both.
+    for i in 0..32usize {
+        all &= alike(source[i], text[i]);
     }
     all
 }
 
-// How many bytes are alike, up to n, byte by byte.
-fn alike_bytes(s: &[u8], at: usize, text: &[u8], t: usize, n: usize) -> usize
-    requires { (at + n ≤ length s.now) × (t + n ≤ length text.now) }
-    ensures { (result ≤ n) × spec.Alike s.now at text.now t result }
+// How many bytes at the front of a source and a text are alike, byte by byte.
+fn alike_bytes(source: &[u8], text: &[u8]) -> usize
+    ensures source { result ≤ length source.now }
+    ensures text { result ≤ length text.now }
+    ensures each { spec.Alike source.now text.now result }
 {
-    let mut i: usize = 0;
-    while i < n {
-        if !alike(s[at + i], text[t + i]) {
-            return i;
-        }
-        i += 1;
-    }
-    i
+    source
+        .iter()
+        .zip(text)
+        .position(|(b, c)| !alike(*b, *c))
+        .unwrap_or(source.len().min(text.len()))
 }
 
 // The same, in blocks as long as they are alike.
-fn alike_blocks(s: &[u8], at: usize, text: &[u8], t: usize, n: usize) -> usize
-    requires { (at + n ≤ length s.now) × (t + n ≤ length text.now) }
-    ensures { (result ≤ n) × spec.Alike s.now at text.now t result }
+fn alike_blocks(source: &[u8], text: &[u8]) -> usize
+    ensures source { result ≤ length source.now }
+    ensures text { result ≤ length text.now }
+    ensures each { spec.Alike source.now text.now result }
 {
+    let end = source.len().min(text.len());
     let mut i: usize = 0;
-    while 32 <= n - i {
-        if !alike_block(s, at + i, text, t + i) {
-            return i + alike_bytes(s, at + i, text, t + i, n - i);
+    while 32 <= end - i {
+        if !alike_block(&source[i..i + 32], &text[i..i + 32]) {
+            break;
         }
         i += 32;
     }
-    i + alike_bytes(s, at + i, text, t + i, n - i)
+    i + alike_bytes(&source[i..], &text[i..])
 }
 
-// How many bytes of s from at on, up to n, and of text from t on are alike.
-pub(crate) fn alike_run(s: &[u8], at: usize, n: usize, text: &[u8], t: usize) -> usize
-    requires { (at + n ≤ length s.now) × (t ≤ length text.now) }
-    ensures { (result ≤ n) × (t + result ≤ length text.now) × spec.Alike s.now at text.now t result }
+// The same. A look at the first bytes spares the block where they differ.
+#[inline(always)]
+pub(crate) fn alike_front(source: &[u8], text: &[u8]) -> usize
+    ensures source { result ≤ length source.now }
+    ensures text { result ≤ length text.now }
+    ensures each { spec.Alike source.now text.now result }
 {
-    let room = text.len() - t;
-    if room < n {
-        return alike_blocks(s, at, text, t, room);
+    if source.is_empty() || text.is_empty() || !alike(source[0], text[0]) {
+        return 0;
     }
-    alike_blocks(s, at, text, t, n)
+    alike_blocks(source, text)
 }

@@ -1,22 +1,22 @@
 // Where a source stops, and why.
-ghost use Rattle.std.specs.Prelude.{◌≡◌};
+ghost use Rattle.std.specs.Prelude.{◌≡◌, true, IfOk, IfErr};
 ghost use Rattle.standard.specs.Contexts.{end_byte};
-ghost use Rattle.standard.specs.Reading.{calls_for, stop_of};
+ghost use Rattle.standard.specs.Reading.{stop_of, readable};
+ghost use Rattle.checker.specs.Meeting.{stop_at};
 
-use crate::classes::wide;
-use crate::spans::ordinary_span;
+use crate::spans::ordinary_front;
 use standard::Context;
 use standard::characters::{CharRead, read_char};
 
-// Why reading stops, and after how many bytes.
+// Why a source can't be read, and the place: a byte that is of no character, or NUL.
 #[derive(Clone, Copy)]
-pub(crate) struct Stopped {
-    pub answer: u32,
-    pub place: usize,
+pub(crate) enum Fault {
+    IllFormed(usize),
+    Nul(usize),
 }
 
 // The byte before which a source ends.
-pub(crate) fn end_of(context: Context) -> u8
+fn end_of(context: Context) -> u8
     ensures { result ≡ end_byte context }
 {
     match context {
@@ -25,45 +25,27 @@ pub(crate) fn end_of(context: Context) -> u8
     }
 }
 
-// The answer that a character calls for: 2 for NUL, 7 for the context's end, 0 where reading goes on.
-fn called_for(context: Context, c: u32) -> u32
-    ensures { result ≡ calls_for context c }
+// Where a source ends, or its first fault.
+pub(crate) fn find_stop(context: Context, s: &[u8]) -> Result<usize, Fault>
+    ensures end { IfOk result (λ end. (readable context s.now ≡ true) × (end ≡ (stop_of context s.now).place)) }
+    ensures fault { IfErr result (λ fault. stop_of context s.now ≡ stop_at fault) }
 {
-    if c == 0 {
-        return 2;
-    }
-    if c == wide(end_of(context)) {
-        return 7;
-    }
-    0
-}
-
-// Where a source stops.
-pub(crate) fn find_stop(context: Context, s: &[u8]) -> Stopped
-    ensures { (result.answer ≡ (stop_of context s.now).answer) × (result.place ≡ (stop_of context s.now).place) }
-{
+    let end = end_of(context);
     let mut at: usize = 0;
     loop {
-        let from = ordinary_span(context, s, at);
-        if from == s.len() {
-            return Stopped {
-                answer: 0,
-                place: from,
-            };
+        at += ordinary_front(&s[at..], end);
+        if at == s.len() {
+            return Ok(at);
         }
-        let CharRead::Char { value, len } = read_char(&s[from..]) else {
-            return Stopped {
-                answer: 1,
-                place: from,
-            };
+        let CharRead::Char { value, len } = read_char(&s[at..]) else {
+            return Err(Fault::IllFormed(at));
         };
-        let answer = called_for(context, value);
-        if answer != 0 {
-            return Stopped {
-                answer,
-                place: from,
-            };
+        if value == 0 {
+            return Err(Fault::Nul(at));
         }
-        at = from + len;
+        if value == u32::from(end) {
+            return Ok(at);
+        }
+        at += len;
     }
 }

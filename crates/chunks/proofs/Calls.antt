@@ -1,9 +1,9 @@
 -- What the loops have to know of a call, from its contract: what it wrote lies in its rooms, and what an answer says of the bytes taken.
-use Prim.Native.Nat.{ℕ, ◌+◌, ◌-◌, ◌*◌, ◌≤◌, ◌<◌}
-use mathlib.Core.Path.{◌≡◌, ◌∙◌, ap, subst}
+use Prim.Native.Nat.{ℕ, ◌+◌, ◌*◌, ◌≤◌, ◌<◌}
+use mathlib.Core.Path.{◌≡◌, ◌∙◌, ap}
 use mathlib.Core.List.{List}
 use native.Mathlib.Omega.{arith}
-use lib.ListN.{length, take, drop, length-take, length-drop}
+use lib.ListN.{length}
 use lib.Seq.{length-sets}
 use Rattle.lists.proofs.Choice.{if_both}
 use Rattle.standard.specs.Answers.{done, room_used_up}
@@ -59,22 +59,15 @@ fit {o} {text} {errors} {text'} {errors'} h d =
     let e : length errors' ≡ length errors = ap length d.numbers_of ∙ length-sets errors 0 (numbers o.gives.errors) in
     rw d.answered (omega arith, omega arith)
 
--- What a part from a place on has.
-rest-length : (s : List ℕ) (at : ℕ) → length (take (length s - at) (drop at s)) ≡ length s - at
-rest-length s at = simp (length-take, length-drop) (omega arith)
-
 module _ (r : Stream) {text errors text' errors' : List ℕ} {fed : Fed} where
-  module _ (chunk : List ℕ) (at : ℕ)
-      (d : Feeds (feed_of builtin r (take (length chunk - at) (drop at chunk)) (length text) (length errors)) text errors fed text' errors') where
-    -- The rest of a chunk.
-    pub feed_takes : Takes r (length chunk - at) fed.answer fed.taken fed.«record»
+  module _ (chunk : List ℕ) (d : Feeds (feed_of builtin r chunk (length text) (length errors)) text errors fed text' errors') where
+    -- A chunk.
+    pub feed_takes : Takes r (length chunk) fed.answer fed.taken fed.«record»
     unfolding fed_of
-    feed_takes =
-        subst (λ (n : ℕ). Takes r n fed.answer fed.taken fed.«record») (rest-length chunk at)
-        (rw d.answered (takes_of r (take (length chunk - at) (drop at chunk)) (length text) (length errors)))
+    feed_takes = rw d.answered (takes_of r chunk (length text) (length errors))
 
     pub feed_fit : (fed.text ≤ length text') × (2 * fed.errors ≤ length errors')
-    feed_fit = fit (feed_fits r (take (length chunk - at) (drop at chunk)) (length text) (length errors)) d
+    feed_fit = fit (feed_fits r chunk (length text) (length errors)) d
 
   -- The end.
   pub end_fit : Feeds (end_of builtin r (length text) (length errors)) text errors fed text' errors'

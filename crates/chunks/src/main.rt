@@ -10,65 +10,55 @@ use standard::Context;
 use std::io;
 use std::io::{Read, Write};
 
+// Arrays of these lengths are lent: nothing here needs a heap.
 const CHUNK: usize = 24;
 
 const TEXT_ROOM: usize = 80;
 
 const NUMBERS_ROOM: usize = 16;
 
+// Two of the answers, which are numbers as in document 01.
 const ALL_TAKEN: u32 = 0;
 
 const ROOM_USED_UP: u32 = 6;
 
-// Errors, two numbers each: ` CODE@PLACE`.
-fn put_errors<W: Write>(output: &mut W, numbers: &[u32]) -> io::Result<()> {
-    let mut i: usize = 1;
-    while i < numbers.len() {
-        let code = numbers[i - 1];
-        let place = numbers[i];
-        write!(output, " {code}@{place}")?;
-        i += 2;
-    }
-    Ok(())
-}
-
 // The line of a call, with what it wrote into its rooms: ANSWER TAKEN [TEXT] CODE@PLACE ..
 fn show<W: Write>(output: &mut W, fed: Fed, text: &[u8], errors: &[u32]) -> io::Result<()>
-    requires { (fed.text ≤ length text.now) × (2 * fed.errors ≤ length errors.now) }
+    requires text_in_bounds { fed.text ≤ length text.now }
+    requires errors_in_bounds { 2 * fed.errors ≤ length errors.now }
 {
-    let bytes = fed.text as usize;
-    let numbers = 2 * fed.errors as usize;
-    let answer = fed.answer;
-    let taken = fed.taken;
-    write!(output, "{answer} {taken} [")?;
-    output.write_all(&text[0..bytes])?;
-    output.write_all(b"]")?;
-    put_errors(output, &errors[0..numbers])?;
-    output.write_all(b"\n")
+    let (errors, _) = errors[..2 * fed.errors as usize].as_chunks::<2>();
+    write!(output, "{} {} [", fed.answer, fed.taken)?;
+    output.write_all(&text[..fed.text as usize])?;
+    write!(output, "]")?;
+    for [code, place] in errors {
+        write!(output, " {code}@{place}")?;
+    }
+    writeln!(output)
 }
 
 // Feeds a chunk, and what answer 6 leaves of it again. Where the last answer is 0, all of it was taken.
 fn feed_all<W: Write>(output: &mut W, mut stream: Stream, chunk: &[u8]) -> io::Result<Fed>
     ensures { IfOk result (λ fed. fed.answer ≡ 0 → fed.«record».taken ≡ stream.taken + length chunk.now) }
 {
-    let mut text = [0u8; TEXT_ROOM];
-    let mut errors = [0u32; NUMBERS_ROOM];
-    let mut at: usize = 0;
+    let mut text = [0; TEXT_ROOM];
+    let mut errors = [0; NUMBERS_ROOM];
+    let mut rest = chunk;
     loop {
-        let fed = stream.feed(&chunk[at..], &mut text, &mut errors);
+        let fed = stream.feed(rest, &mut text, &mut errors);
         show(output, fed, &text, &errors)?;
         if fed.answer != ROOM_USED_UP {
             return Ok(fed);
         }
-        at += fed.taken as usize;
+        rest = &rest[fed.taken as usize..];
         stream = fed.record;
     }
 }
 
 // The source ends: what is still held is written.
 fn end<W: Write>(output: &mut W, stream: Stream) -> io::Result<Fed> {
-    let mut text = [0u8; TEXT_ROOM];
-    let mut errors = [0u32; NUMBERS_ROOM];
+    let mut text = [0; TEXT_ROOM];
+    let mut errors = [0; NUMBERS_ROOM];
     let fed = stream.end(&mut text, &mut errors);
     show(output, fed, &text, &errors)?;
     Ok(fed)
@@ -80,7 +70,7 @@ fn decode<R: Read, W: Write>(
     output: &mut W,
     mut stream: Stream,
 ) -> io::Result<Fed> {
-    let mut chunk = [0u8; CHUNK];
+    let mut chunk = [0; CHUNK];
     loop {
         let count = read_full(reader, &mut chunk)?;
         if count == 0 {
@@ -97,7 +87,5 @@ fn decode<R: Read, W: Write>(
 fn main(rt: HostRuntime) -> io::Result<()> {
     let mut output = io::writer(&rt);
     let fed = decode(&mut rt.stdin(), &mut output, Stream::new(Context::Text))?;
-    let answer = fed.answer;
-    let place = fed.place;
-    writeln!(output, "answer {answer}, place {place}")
+    writeln!(output, "answer {}, place {}", fed.answer, fed.place)
 }

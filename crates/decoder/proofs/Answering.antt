@@ -1,17 +1,18 @@
 -- The answers of a whole source: when each is given, and what then meets the contract.
 use Rattle.std.specs.Prelude.{if◌then◌else◌}
-use Prim.Native.Nat.{ℕ, ◌+◌, ◌*◌, ◌≤◌, ◌<◌}
+use Prim.Native.Nat.{ℕ, ◌+◌, ◌*◌, ◌/◌, ◌≤◌, ◌<◌}
 use mathlib.Core.Path.{◌≡◌, refl, sym, ◌∙◌, ap, subst}
 use mathlib.Core.List.{List, []}
 use mathlib.Core.Bool.{true, false, ◌||◌}
 use mathlib.Core.Logic.{◌⊎◌, inl, inr, ⊎_elim, ⊎_map}
+use native.Mathlib.Nat.{mul-div_cancel_left}
 use native.Mathlib.Omega.{arith}
 use lib.Dec.{ltb, eqb}
 use lib.ListN.{length, take}
 use lib.Seq.{sets, length-take-le}
 use borrow.Author.Tests.{lt-ltb, le-ltb, eqb-true}
 use Rattle.lists.proofs.Choice.{no_way, or_true, below?, test?}
-use Rattle.lists.proofs.Layings.{Laying}
+use Rattle.lists.specs.Layings.{Laying}
 use Rattle.standard.specs.declared.Context.{Context}
 use Rattle.standard.specs.Answers.{done, too_long, context_end, room_asked}
 use Rattle.standard.specs.Errors.{numbers}
@@ -113,7 +114,8 @@ unread-stopped context s a place e p = go (stops_with context s)
     go (inr (inr (inl k))) = rw (e ∙ k, p)
     go (inr (inr (inr k))) = rw (e ∙ k, p)
 
-module _ {lay : List ℕ → List ℕ} (room : ℕ) (context : Context) (s text errors : List ℕ) {r : Decoded} {text' errors' : List ℕ} where
+module _ {A : Type 0} {lay : List ℕ → List A} (room : ℕ) (context : Context) (s text : List ℕ) (errors : List A) {r : Decoded} {text' : List ℕ}
+    {errors' : List A} where
   -- By the answer's number alone.
   by_answer : (a : ℕ) → answer_of context s (length text) room ≡ a
       → r ≡ decoded a (text_named a s (written_with context s a)) (length (written_with context s a).errors) (place_named a (stop_of context s))
@@ -135,13 +137,13 @@ module _ {lay : List ℕ → List ℕ} (room : ℕ) (context : Context) (s text 
   answer_is d = ap (λ (x : Decoded). x.answer) d.answered
 
 -- From the answer before anything is written.
-module _ (room : ℕ) (context : Context) (s text errors : List ℕ) {stop : Decoded}
+module _ {A : Type 0} (room : ℕ) (context : Context) (s text : List ℕ) (errors : List A) {stop : Decoded}
     (unread : stop ≡ unread_of context s (length text) room) where
   answers : stop.answer ≡ answer_of context s (length text) room
   answers = ap (λ (x : Decoded). x.answer) unread
 
   -- Where the source is not readable nothing is written.
-  pub whole_unread : {width : ℕ} {lay : List ℕ → List ℕ} → Laying width lay → eqb stop.answer done || eqb stop.answer context_end ≡ false
+  pub whole_unread : {width : ℕ} {lay : List ℕ → List A} → Laying width lay → eqb stop.answer done || eqb stop.answer context_end ≡ false
       → DecodesBy lay room context s text errors stop text errors
   unfolding decoded_of written_of numbers
   whole_unread laid f =
@@ -189,7 +191,7 @@ module _ (room : ℕ) (context : Context) (s text errors : List ℕ) {stop : Dec
         (omega (arith, stops_there, h), omega (arith, stops_there, h, k), omega (arith, stops_there, h, k), omega (arith, stops_there, h, k))
 
     -- It was read.
-    pub whole_read : {lay : List ℕ → List ℕ} {r : Decoded} {text' errors' : List ℕ}
+    pub whole_read : {lay : List ℕ → List A} {r : Decoded} {text' : List ℕ} {errors' : List A}
         → ReadCovered lay context (take stop.place s) stop.answer text errors r text' errors'
         → DecodesBy lay room context s text errors r text' errors'
     whole_read {lay} {r} {text'} {errors'} w = go either
@@ -202,7 +204,8 @@ module _ (room : ℕ) (context : Context) (s text errors : List ℕ) {stop : Dec
             (w.numbers_of ∙ rw stops_there)
 
 -- What was written of a covered part says how much it is.
-pub reads_of : {lay : List ℕ → List ℕ} {context : Context} {s : List ℕ} {answer place w e : ℕ} {text errors text' errors' : List ℕ}
+pub reads_of : {A : Type 0} {lay : List ℕ → List A} {context : Context} {s : List ℕ} {answer place w e : ℕ} {text text' : List ℕ}
+    {errors errors' : List A}
     → (n : ℕ) → n ≡ length (decode builtin context s).errors → place ≡ end_named answer (length s)
     → WroteBy lay (decode builtin context s) text 0 text' w errors 0 errors' e
     → ReadCovered lay context s answer text errors (decoded answer w n place) text' errors'
@@ -211,14 +214,16 @@ reads_of {context = context} {s} {w = w} n is place_is wrote =
     record { answered = rw (f, is, place_is); texts = wrote.texts.new_is; numbers_of = wrote.numbers_of.new_is }
 
 -- Of a covered source at most 65,536 bytes and errors are written, each error as two numbers.
-pub wrote-few : {width : ℕ} {lay : List ℕ → List ℕ} → Laying width lay → (context : Context) (s : List ℕ)
-    {text errors text' errors' : List ℕ} {w e : ℕ} → length s ≤ 65536 → WroteBy lay (decode builtin context s) text 0 text' w errors 0 errors' e
-    → (w ≤ 65536) × (e ≡ width * (2 * length (decode builtin context s).errors)) × (length (decode builtin context s).errors ≤ 65536)
-wrote-few {width} laid context s h wrote =
+pub wrote-few : {A : Type 0} {each : ℕ} {lay : List ℕ → List A} → Laying each lay → 0 < each → (context : Context) (s : List ℕ)
+    {text text' : List ℕ} {errors errors' : List A} {w e : ℕ} → length s ≤ 65536
+    → WroteBy lay (decode builtin context s) text 0 text' w errors 0 errors' e
+    → (w ≤ 65536) × (e / each / 2 ≡ length (decode builtin context s).errors) × (length (decode builtin context s).errors ≤ 65536)
+wrote-few {each = each} laid some context s {e = e} h wrote =
     let l = (decode builtin context s).errors in
     let n : length (numbers l) ≡ 2 * length l = omega (arith, numbers-length l) in
-    let k = laid.long (numbers l) ∙ ap (λ (m : ℕ). width * m) n in (
+    let k : e ≡ each * (2 * length l) = omega (arith, wrote.numbers_of.next_is, laid.long (numbers l) ∙ ap (λ (m : ℕ). each * m) n) in
+    let d : e / each ≡ 2 * length l = ap (λ (m : ℕ). m / each) k ∙ mul-div_cancel_left (2 * length l) some in (
       omega (arith, wrote.texts.next_is, text_fits builtin context s builtin_narrow),
-      omega (arith, wrote.numbers_of.next_is, k),
+      omega (arith, d),
       omega (arith, errors_fit builtin context s),
     )

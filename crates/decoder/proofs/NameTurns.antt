@@ -1,5 +1,5 @@
 -- Laws of a turn in a name: it goes on, it is closed by its `;`, or it is settled.
-use Rattle.std.specs.Prelude.{if◌then◌else◌}
+use Rattle.std.specs.Prelude.{if◌then◌else◌, Option, Some, None, IfSome, is_some}
 use Prim.Native.Nat.{ℕ, zero, suc, ◌+◌, ◌-◌, ◌≤◌, ◌<◌}
 use Prim.Native.Char.{code}
 use mathlib.Core.Path.{◌≡◌, refl, sym, ◌∙◌, ap, subst}
@@ -12,17 +12,17 @@ use lib.ListN.{length, take, drop, set, length-append}
 use lib.Seq.{drop-length, take-nil, take_at}
 use borrow.Author.Tests.{ne_eqb, eq-eqb, eqb-true}
 use Rattle.lists.specs.Notation.{next_passes, front}
+use Rattle.lists.proofs.Choice.{no_way}
 use Rattle.standard.specs.declared.Context.{Context}
 use Rattle.standard.specs.declared.names.Found.{Found}
 use Rattle.standard.specs.Utf8.{octets, encode}
 use Rattle.standard.specs.Errors.{error, placed, no_error, unknown_named_character_reference}
 use Rattle.standard.specs.Classes.{alphanumeric, character_code}
-use Rattle.standard.specs.Names.{records, table_of, longest, begins}
+use Rattle.standard.specs.Names.{found_of, longest, begins}
 use Rattle.standard.specs.NameList.{builtin}
 use Rattle.standard.specs.Pieces as standard
 use Rattle.standard.specs.Pieces.{ampersand, unknown_name, named_by, char_ref_text}
 use Rattle.standard.specs.Reading.{reading, reading_at, ◌⊕◌}
-use Rattle.standard.proofs.BuiltinNames.{table-read}
 use Rattle.standard.proofs.Computing.{computing}
 use Rattle.standard.proofs.Narrow.{longest-fits}
 use Rattle.decoder.specs.declared.pieces.Piece.{Piece}
@@ -258,15 +258,14 @@ module _ {held : Held} {h : List ℕ} {c : ℕ} (on : NameHeld held h c) where
         ∙ sym (closed_read context held.place h name_letters closes))
         (omega (arith, on.stored.count_is))))
 
--- What the table of the built-in names tells of some bytes, they tell.
-module _ {table rest s : List ℕ} (read : table ≡ table_of builtin) (is : rest ≡ s) where
-  -- The longest name.
-  pub found_read : {found : Found} → found ≡ longest (records table) rest → found ≡ longest builtin s
-  found_read e = e ∙ (λ i. longest ((ap records read ∙ table-read) i) (is i))
+-- A name was found where it has a byte.
+pub found_some : (o : Option Found) (m : ℕ) → IfSome o (λ f. (1 ≤ f.len) × (f.len ≤ m)) → is_some o ≡ true → (found_of o).len ≢ 0
+found_some None m there e = no_way (sym e)
+found_some (Some f) m there e = λ z. omega (arith, z, there.0)
 
-  -- Whether a name begins so.
-  pub begins_read : {r : Bool} → r ≡ begins (records table) rest → begins builtin s ≡ r
-  begins_read e = sym (e ∙ (λ i. begins ((ap records read ∙ table-read) i) (is i)))
+pub found_none : (o : Option Found) → is_some o ≡ false → (found_of o).len ≡ 0
+found_none None e = refl
+found_none (Some f) e = no_way e
 
 -- Nothing is a beginning of a name.
 name-nothing : held_name builtin [] ≡ true

@@ -7,10 +7,11 @@ use mathlib.Core.List.{List, [], ◌∷◌, ◌++◌}
 use mathlib.Core.Bool.{Bool, true, false, not, ◌||◌, ◌&&◌, and-true, and-false}
 use mathlib.Core.Logic.{inl, inr, ⊎_elim}
 use native.Mathlib.Omega.{arith}
-use lib.Dec.{ltb, eqb}
+use lib.Dec.{ltb, eqb, eqb-suc-suc}
+use lib.Pointwise.{pointwise}
 use lib.ListN.{length, get_or, take, drop, replicate, length-take, length-append}
 use lib.Seq.{length-take-le, take-suc, take_all, take-append_seam, get_or-take}
-use borrow.Author.Tests.{eq-eqb, eqb-true, ltb-true, lt-ltb, le-leb}
+use borrow.Author.Tests.{eq-eqb, eqb-true, ltb-true, lt-ltb, le-leb, ne_eqb}
 use Rattle.lists.proofs.Choice as choice
 use Rattle.lists.proofs.Choice.{no_way, or_true, length_none}
 use Rattle.lists.proofs.Nexts.{next_at}
@@ -155,6 +156,19 @@ held-by-last h some = go (begins builtin h) refl
     go : (t : Bool) → begins builtin h ≡ t → t && not (closed_name builtin h) ≡ t && not (eqb (get_or h (length h - 1) 0) (code ";"))
     go false e = refl
     go true e = ap not (closed-by-last h some e)
+
+-- Slices are equal where their lists are the same.
+pub pointwise-same : (s t : List ℕ) → pointwise eqb s t ≡ same s t
+unfolding stands
+pointwise-same [] [] = refl
+pointwise-same [] (b ∷ t) = rw (ne_eqb 0 (length (b ∷ t)) (λ e. omega (arith, e))) refl
+pointwise-same (a ∷ s) [] = rw (and-false (eqb (length (a ∷ s)) 0)) refl
+pointwise-same (a ∷ s) (b ∷ t) = rw (pointwise-same s t, eqb-suc-suc (length s) (length t)) (swap (eqb a b) (eqb (length s) (length t)) (stands s t))
+  where
+    swap : (p q r : Bool) → p && (q && r) ≡ q && (p && r)
+    swap true q r = refl
+    swap false true r = refl
+    swap false false r = refl
 
 -- A store of fewer than two bytes has no name.
 pub name_none : (k : ℕ) (s : List ℕ) → k < 2 → is_name_store builtin (take k s) ≡ false

@@ -143,7 +143,7 @@ module _ (r : Stream) (o : Open r) where
     pub char_stops : (c : ℕ) {answer : ℕ} → answer ≡ calls_for r.context c → answer ≢ done
         → Wrote (last_of builtin r.context answer (st_of r.held)) text w text' w' errors e errors' e'
         → Walks r.context (char_walk builtin r.context (at_of r) c (encode c)) text w errors e
-        (record { answer = answer; «record» = r; text = w'; errors = e' }) text' errors'
+        (record { answer = answer; «record» = r; ends = record { text = w'; errors = e' } }) text' errors'
     unfolding char_walk
     char_stops c {answer} is calls wrote = rw (← is, ne_eqb answer done calls) (record { answered = refl; recorded = o.whole; wrote = wrote })
 
@@ -155,8 +155,7 @@ module _ (r : Stream) (o : Open r) where
         (record {
           answer = 0;
           «record» = record { context = r.context; held = next; part = 0 ∷ 0 ∷ 0 ∷ []; part_count = 0; taken = r.taken + 1 };
-          text = w';
-          errors = e';
+          ends = record { text = w'; errors = e' };
         }) text' errors'
     unfolding char_walk record_of
     char_goes c calls is wrote =
@@ -179,7 +178,7 @@ module _ (r : Stream) (o : Open r) where
     pub byte_kept : (b : ℕ) {n : ℕ} {kept : Stream} → read_char ((at_of r).part ++ b ∷ []) ≡ Incomplete n
         → kept ≡ record_of r.context (at_by (st_of r.held) ((at_of r).part ++ b ∷ []) (r.taken + 1))
         → Walks r.context (byte_walk builtin r.context (at_of r) b) text w errors e
-        (record { answer = 0; «record» = kept; text = w; errors = e }) text errors
+        (record { answer = 0; «record» = kept; ends = record { text = w; errors = e } }) text errors
     unfolding byte_walk
     byte_kept b read is =
         rw read
@@ -192,6 +191,6 @@ module _ (r : Stream) (o : Open r) where
     -- An ill-formed byte.
     pub byte_ill : (b : ℕ) {n : ℕ} → read_char ((at_of r).part ++ b ∷ []) ≡ Illformed n
         → Walks r.context (byte_walk builtin r.context (at_of r) b) text w errors e
-        (record { answer = 1; «record» = r; text = w; errors = e }) text errors
+        (record { answer = 1; «record» = r; ends = record { text = w; errors = e } }) text errors
     unfolding byte_walk
     byte_ill b read = rw read (record { answered = refl; recorded = o.whole; wrote = wrote_none text w errors e })

@@ -1,10 +1,10 @@
 -- What a call of the chunk decoder comes to, one law for each kind of return.
-use Rattle.std.specs.Prelude.{if◌then◌else◌}
+use Rattle.std.specs.Prelude.{if◌then◌else◌, Option, Some, None, is_some}
 use Prim.Native.Nat.{ℕ, ◌+◌, ◌-◌, ◌/◌, ◌≤◌, ◌<◌}
 use mathlib.Core.Path.{◌≡◌, refl, sym, ◌∙◌, ap, subst}
 use mathlib.Core.List.{List}
 use mathlib.Core.Bool.{Bool, true, false, not}
-use mathlib.Core.Logic.{◌≢◌, ◌⊎◌}
+use mathlib.Core.Logic.{◌⊎◌}
 use native.Mathlib.Omega.{arith}
 use lib.Dec.{ltb, leb}
 use lib.ListN.{length, take, length-take}
@@ -154,9 +154,14 @@ pub record NotRefused (r : Stream) (k t e : ℕ) : Type 0 where
   pub text_room : 64 ≤ t
   pub errors_room : 8 ≤ e
 
--- An answer to a chunk of k bytes before any of them is read, 0 where it is not refused.
-module _ (r : Stream) (k t e : ℕ) {a : ℕ} (answers : a ≡ refusal_of builtin r k t e) where
-  pub not_refused : a ≡ done → NotRefused r k t e
+-- The number of an answer.
+abbrev number : Option ℕ → ℕ
+number None = 0
+number (Some a) = a
+
+-- What a chunk of k bytes is refused with before any of them is read, if it is.
+module _ (r : Stream) (k t e : ℕ) {a : Option ℕ} (answers : a ≡ refusal_of builtin r k t e) where
+  pub not_refused : a ≡ None → NotRefused r k t e
   unfolding refusal_of
   not_refused none =
       let f = by (is_open builtin r) (ltb 65536 k) (ltb 16777216 (r.taken + k)) (lacks_room t e) (sym answers ∙ none) in
@@ -170,46 +175,53 @@ module _ (r : Stream) (k t e : ℕ) {a : ℕ} (answers : a ≡ refusal_of builti
       }
     where
       by : (o l m x : Bool)
-          → (if not o then closed else if l then too_long else if m then stream_too_long else if x then no_room else done) ≡ done
+          → (if not o then Some closed else if l then Some too_long else if m then Some stream_too_long else if x then Some no_room else None) ≡ None
           → (o ≡ true) × (l ≡ false) × (m ≡ false) × (x ≡ false)
-      by false l m x h = absurd (omega arith)
-      by true true m x h = absurd (omega arith)
-      by true false true x h = absurd (omega arith)
-      by true false false true h = absurd (omega arith)
+      by false l m x h = no_way (ap is_some h)
+      by true true m x h = no_way (ap is_some h)
+      by true false true x h = no_way (ap is_some h)
+      by true false false true h = no_way (ap is_some h)
       by true false false false h = (refl, refl, refl, refl)
 
-  -- A chunk that is refused.
-  pub feed_refused : (chunk : List ℕ) → length chunk ≡ k → a ≢ done → feed_of builtin r chunk t e ≡ refuses a r
-  unfolding feed_of refusal_of
-  feed_refused chunk long =
-      rw long (by (is_open builtin r) (ltb 65536 k) (ltb 16777216 (r.taken + k)) (lacks_room t e) _ answers)
-    where
-      by : (o l m x : Bool) (walks : Outcome)
-          → a ≡ (if not o then closed else if l then too_long else if m then stream_too_long else if x then no_room else done) → a ≢ done
-          → (if not o then refuses closed r else if l then refuses too_long r else if m then refuses stream_too_long r
-          else if x then refuses no_room r else walks)
-          ≡ refuses a r
-      by false l m x walks is some = ap (λ (n : ℕ). refuses n r) (sym is)
-      by true true m x walks is some = ap (λ (n : ℕ). refuses n r) (sym is)
-      by true false true x walks is some = ap (λ (n : ℕ). refuses n r) (sym is)
-      by true false false true walks is some = ap (λ (n : ℕ). refuses n r) (sym is)
-      by true false false false walks is some = absurd (some is)
+  module _ {answer : ℕ} (some : a ≡ Some answer) where
+    -- What a call comes to that is refused with another number is refused with this one.
+    refused_so : {n : ℕ} → a ≡ Some n → refuses n r ≡ refuses answer r
+    refused_so is = ap (λ (o : Option ℕ). refuses (number o) r) (sym is ∙ some)
 
-  -- An end that is refused, as a chunk of no bytes is.
-  pub end_refused : k ≡ 0 → a ≢ done → end_of builtin r t e ≡ refuses a r
-  unfolding end_of refusal_of
-  end_refused zero =
-      by (is_open builtin r) (ltb 65536 k) (ltb 16777216 (r.taken + k)) (lacks_room t e) _ (le-ltb 65536 k (omega arith))
-      (λ o. le-ltb 16777216 (r.taken + k) (omega (arith, (opened r o).long))) answers
-    where
-      by : (o l m x : Bool) (ends : Outcome) → l ≡ false → (o ≡ true → m ≡ false)
-          → a ≡ (if not o then closed else if l then too_long else if m then stream_too_long else if x then no_room else done) → a ≢ done
-          → (if not o then refuses closed r else if x then refuses no_room r else ends) ≡ refuses a r
-      by false l m x ends short within is some = ap (λ (n : ℕ). refuses n r) (sym is)
-      by true true m x ends short within is some = no_way short
-      by true false true x ends short within is some = no_way (within refl)
-      by true false false true ends short within is some = ap (λ (n : ℕ). refuses n r) (sym is)
-      by true false false false ends short within is some = absurd (some is)
+    none-way : {P : Type 0} → a ≡ None → P
+    none-way is = no_way (ap is_some (sym some ∙ is))
+
+    -- A chunk that is refused.
+    pub feed_refused : (chunk : List ℕ) → length chunk ≡ k → feed_of builtin r chunk t e ≡ refuses answer r
+    unfolding feed_of refusal_of
+    feed_refused chunk long = rw long (by (is_open builtin r) (ltb 65536 k) (ltb 16777216 (r.taken + k)) (lacks_room t e) _ answers)
+      where
+        by : (o l m x : Bool) (walks : Outcome)
+            → a ≡ (if not o then Some closed else if l then Some too_long else if m then Some stream_too_long else if x then Some no_room else None)
+            → (if not o then refuses closed r else if l then refuses too_long r else if m then refuses stream_too_long r
+            else if x then refuses no_room r else walks)
+            ≡ refuses answer r
+        by false l m x walks is = refused_so is
+        by true true m x walks is = refused_so is
+        by true false true x walks is = refused_so is
+        by true false false true walks is = refused_so is
+        by true false false false walks is = none-way is
+
+    -- An end that is refused, as a chunk of no bytes is.
+    pub end_refused : k ≡ 0 → end_of builtin r t e ≡ refuses answer r
+    unfolding end_of refusal_of
+    end_refused zero =
+        by (is_open builtin r) (ltb 65536 k) (ltb 16777216 (r.taken + k)) (lacks_room t e) _ (le-ltb 65536 k (omega arith))
+        (λ o. le-ltb 16777216 (r.taken + k) (omega (arith, (opened r o).long))) answers
+      where
+        by : (o l m x : Bool) (ends : Outcome) → l ≡ false → (o ≡ true → m ≡ false)
+            → a ≡ (if not o then Some closed else if l then Some too_long else if m then Some stream_too_long else if x then Some no_room else None)
+            → (if not o then refuses closed r else if x then refuses no_room r else ends) ≡ refuses answer r
+        by false l m x ends short within is = refused_so is
+        by true true m x ends short within is = no_way short
+        by true false true x ends short within is = no_way (within refl)
+        by true false false true ends short within is = refused_so is
+        by true false false false ends short within is = none-way is
 
 -- What holds of each of its returns holds of what a call comes to.
 module _ (P : Outcome → Type 0) (r : Stream) (t e : ℕ) where
@@ -263,8 +275,8 @@ module _ {context : Context} {w : Walked} {text errors text' errors' : List ℕ}
   pub walk_feeds : {fed : Fed} (before : ℕ) → fed ≡ record {
     answer = walked.answer;
     taken = walked.«record».taken - before;
-    text = walked.text;
-    errors = walked.errors / 2;
+    text = walked.ends.text;
+    errors = walked.ends.errors / 2;
     place = if closes walked.answer then walked.«record».taken - walked.«record».part_count else 0;
     «record» = if closes walked.answer then closed_by context walked.«record».taken else walked.«record»;
   } → Feeds (walked_to context before w) text errors fed text' errors'
@@ -274,8 +286,8 @@ module _ {context : Context} {w : Walked} {text errors text' errors' : List ℕ}
       go : (t : Bool) → fed ≡ record {
         answer = w.answer;
         taken = w.stop.taken - before;
-        text = walked.text;
-        errors = walked.errors / 2;
+        text = walked.ends.text;
+        errors = walked.ends.errors / 2;
         place = if t then place_of w.stop else 0;
         «record» = if t then closed_by context w.stop.taken else record_of context w.stop;
       }

@@ -195,7 +195,8 @@ module _ (names : List Name) (context : Context) where
           else step_after (finish_numeric q value false) (step_data p c (take n s)))
       go true u e f =
           looks_own (is_digit base) (digit-ascii base few)
-          (λ s n. Ok names context p s n (num_mean names context q base value p s) (to nothing (Numeric q intro base (add_digit base value c)))) look e
+          (λ s n. Ok names context p s n (num_mean names context q base value p s) (to nothing (Numeric q intro base (add_digit base value c))))
+          look e
           (λ t. record { same = number_more names context q base value p c t e; valid = few })
       go false true e f =
           looks_own (is (code ";")) (equal_ascii (code ";") (omega arith))

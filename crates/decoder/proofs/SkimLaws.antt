@@ -4,13 +4,13 @@ use Prim.Native.Nat.{ℕ, zero, suc, ◌+◌, ◌-◌, ◌*◌, ◌≤◌, ◌<�
 use Prim.Native.Char.{code}
 use mathlib.Core.Path.{◌≡◌, refl, sym, ◌∙◌, ap, ap₂, subst}
 use mathlib.Core.List.{List, [], ◌∷◌, ◌++◌}
-use mathlib.Core.Bool.{Bool, true, false, ◌||◌, ◌&&◌}
-use mathlib.Core.Logic.{◌≢◌, inl, inr}
+use mathlib.Core.Bool.{Bool, true, false, ◌||◌}
+use mathlib.Core.Logic.{◌≢◌}
 use native.Mathlib.Omega.{arith}
-use lib.Dec.{eqb, ltb, leb}
+use lib.Dec.{eqb, leb}
 use lib.ListN.{length, get_or, take, drop, length-take, length-drop, drop_of_length-le}
 use lib.Seq.{get_or-take, get_or-drop, take-suc, length-take-le, take_all, take-add, take-take, drop_at, drop-drop}
-use borrow.Author.Tests.{eqb-true, ne_eqb, ltb-true, leb-true}
+use borrow.Author.Tests.{eqb-true, ne_eqb, leb-true}
 use Rattle.lists.specs.Notation.{front, every}
 use Rattle.lists.specs.Rooms.{Put}
 use Rattle.lists.proofs.Choice.{no_way, and_true}
@@ -24,14 +24,12 @@ use Rattle.standard.specs.Utf8.{read_char}
 use Rattle.standard.specs.Answers.{done}
 use Rattle.standard.specs.Classes.{alphanumeric, character_code}
 use Rattle.standard.specs.Errors.{listed, placed}
-use Rattle.standard.specs.Names.{Name, table_of, records}
 use Rattle.standard.specs.NameList.{builtin}
 use Rattle.standard.specs.Pieces as standard
 use Rattle.standard.specs.Pieces.{character, piece_at}
 use Rattle.standard.specs.Reading.{calls_for, Reading, reading, reading_at, ◌⊕◌}
 use Rattle.decoder.specs.Writing.{Wrote}
 use Rattle.standard.proofs.Ascii.{read-ascii}
-use Rattle.standard.proofs.BuiltinNames.{table-read}
 use Rattle.standard.proofs.Joining.{⊕-none, numbers-length}
 use Rattle.decoder.proofs.Writing.{wrote_none, wrote_text, wrote-join}
 use Rattle.standard.proofs.Utf8.{read_end, read_length, read_take}
@@ -46,7 +44,7 @@ use Rattle.runs.specs.Kinds.{plain}
 use Rattle.decoder.specs.Stream.{At, at_by, Walked, stops_at, onward, lacks_room, walk, is_part, st_by, held_of, record_of, at_of}
 use Rattle.decoder.specs.Turns.{Fits}
 use Rattle.decoder.specs.Feeding.{OpenAt, Open, Moves}
-use Rattle.decoder.specs.Skims.{PlainRun, in_reference, Closes, Ends, Stands, Alone, has_room, Skims}
+use Rattle.decoder.specs.Skims.{PlainRun, in_reference, Closes, Stands, has_room, Skims}
 use Rattle.decoder.proofs.ClosedReferences.{Passes, walk-closed}
 use Rattle.decoder.proofs.PieceLaws.{character-read}
 use Rattle.decoder.proofs.Room.{room-only}
@@ -192,16 +190,12 @@ module _ {context : Context} {before : ℕ} {s : List ℕ} {from : ℕ} {text er
         → (64 ≤ length text' - w') × (8 ≤ length errors' - e')
     skims_free is free = room-only (length text' - w') (length errors' - e') (sym is ∙ free)
 
-    -- Where a piece is found to have its room, it has bytes, and the room is there.
+    -- Where a piece is found to have its room, that is there.
     pub skims_fits : (p : Piece) {has : Bool} → has ≡ has_room p.size (length text' - w') (length errors' - e') → has ≡ true
-        → (0 < p.size) × (64 + p.size ≤ length text' - w') × (8 + 2 * p.size ≤ length errors' - e')
+        → (64 + p.size ≤ length text' - w') × (8 + 2 * p.size ≤ length errors' - e')
     skims_fits p is fits =
-        let f = and_true (ltb 0 p.size && leb (64 + p.size) (length text' - w')) (leb (8 + 2 * p.size) (length errors' - e')) (sym is ∙ fits) in
-        let h = and_true (ltb 0 p.size) (leb (64 + p.size) (length text' - w')) f.0 in (
-          ltb-true 0 p.size h.0,
-          leb-true (64 + p.size) (length text' - w') h.1,
-          leb-true (8 + 2 * p.size) (length errors' - e') f.1,
-        )
+        let f = and_true (leb (64 + p.size) (length text' - w')) (leb (8 + 2 * p.size) (length errors' - e')) (sym is ∙ fits) in
+        (leb-true (64 + p.size) (length text' - w') f.0, leb-true (8 + 2 * p.size) (length errors' - e') f.1)
 
 -- Where nothing is held a stream is open.
 open_data : (n : ℕ) → OpenAt (at_by Data [] n)
@@ -374,9 +368,9 @@ front-reference context (x ∷ s) (suc m) some there e =
     rw e (ap (λ (k : ℕ). standard.reference builtin context (take k s)) (let i : m ≡ suc m - 1 = omega arith in i))
 
 -- A reference that ends in its own `;` stands for itself.
-pub stands-closed : {context : Context} {s table : List ℕ} {n : ℕ} {p : Piece} → Closes s n → get_or s 0 0 ≡ code "&" → table ≡ table_of builtin
-    → piece_of p ≡ standard.reference (records table) context (take (n - 1) (drop 1 s)) → p.size ≡ n → Stands context s p
-stands-closed {context} {s} {table} {n} {p} c first t is size = record {
+pub stands-closed : {context : Context} {s : List ℕ} {n : ℕ} {p : Piece} → Closes s n → get_or s 0 0 ≡ code "&"
+    → piece_of p ≡ standard.reference builtin context (take (n - 1) (drop 1 s)) → p.size ≡ n → Stands context s p
+stands-closed {context} {s} {n} {p} c first is size = record {
   some = omega (arith, c.some);
   there = omega (arith, c.there);
   walks = λ text errors q h k.
@@ -407,18 +401,7 @@ stands-closed {context} {s} {table} {n} {p} c first t is size = record {
 
     front : piece_at builtin context (take n s) ≡ piece_of p
     front =
-        front-reference context s n (omega (arith, c.some)) c.there first
-        ∙ ap (λ (names : List Name). standard.reference names context (take (n - 1) (drop 1 s))) (sym (ap records t ∙ table-read)) ∙ sym is
-
--- Its bytes are there.
-pub alone-there : {context : Context} {s : List ℕ} (p : Piece) → Alone context s p → p.size ≤ length s
-alone-there p (inl none) = omega (arith, ap (λ (x : Piece). x.size) none)
-alone-there p (inr a) = a.there
-
--- A piece that has bytes stands so.
-pub alone-stands : {context : Context} {s : List ℕ} (p : Piece) → Alone context s p → 0 < p.size → Stands context s p
-alone-stands p (inl none) some = absurd (omega (arith, ap (λ (x : Piece). x.size) none))
-alone-stands p (inr a) some = a
+        front-reference context s n (omega (arith, c.some)) c.there first ∙ sym is
 
 -- Bytes of a reference so far, and one more.
 pub between_more : (s : List ℕ) (at : ℕ) → 1 ≤ at → at < length s → every in_reference (take (at - 1) (drop 1 s)) ≡ true
@@ -455,8 +438,3 @@ ampersand-first s c n read e = by (looks s c n read) e
     by : {s : List ℕ} {c n : ℕ} → Looks s c n → c ≡ code "&" → (0 < length s) × (get_or s 0 0 ≡ code "&")
     by (ascii h) e = (omega arith, e)
     by (wide h k f) e = absurd (omega arith)
-
--- An end that is there closes some bytes.
-pub ends-closes : {s : List ℕ} {n : ℕ} → Ends s n → n ≢ 0 → Closes s n
-ends-closes (inl none) some = absurd (some none)
-ends-closes (inr c) some = c

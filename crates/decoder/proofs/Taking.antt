@@ -137,7 +137,7 @@ byte_stays context at b = by (eqb (called_for context (read_char own)) done)
 
 -- A walk that ends where a stream is open is bounded.
 bounded : (start : Stream) (n : ℕ) {x : code.Walked} (at : At) → OpenAt at → start.taken ≤ at.taken → x.«record» ≡ record_of start.context at
-    → x.text ≤ 64 * n → x.errors ≤ 8 * n → Bounded start n x
+    → x.ends.text ≤ 64 * n → x.ends.errors ≤ 8 * n → Bounded start n x
 unfolding record_of
 bounded start n at o before is text_few errors_few =
     let taken_is = ap (λ (y : Stream). y.taken) is in
@@ -280,13 +280,13 @@ module _ {start : Stream} {chunk text₀ errors₀ : List ℕ} where
     -- The walk ends here.
     taken_ends : {x : code.Walked} {text' errors' : List ℕ} (a : ℕ) (gives : Reading) (stop : At)
         → walk builtin start.context (length text - w) (length errors - e) g.here (drop at chunk) ≡ stops_at a gives stop → x.answer ≡ a
-        → x.«record» ≡ record_of start.context stop → Wrote gives text w text' x.text errors e errors' x.errors
+        → x.«record» ≡ record_of start.context stop → Wrote gives text w text' x.ends.text errors e errors' x.ends.errors
         → Walks start.context (whole start chunk text₀ errors₀) text₀ 0 errors₀ 0 x text' errors'
     taken_ends {x} {text'} {errors'} a gives stop walked answered recorded wrote =
         let all = rest ∙ ap (onward g.so_far) walked in record {
           answered = answered ∙ sym (ap (λ (x : Walked). x.answer) all);
           recorded = recorded ∙ ap (λ (x : Walked). record_of start.context x.stop) (sym all);
-          wrote = subst (λ (r : Reading). Wrote r text₀ 0 text' x.text errors₀ 0 errors' x.errors) (ap (λ (x : Walked). x.gives) (sym all))
+          wrote = subst (λ (r : Reading). Wrote r text₀ 0 text' x.ends.text errors₀ 0 errors' x.ends.errors) (ap (λ (x : Walked). x.gives) (sym all))
               (wrote-join g.wrote wrote);
         }
 
@@ -294,16 +294,16 @@ module _ {start : Stream} {chunk text₀ errors₀ : List ℕ} where
     module _ {x : code.Walked} {text' errors' : List ℕ} (more : at < length chunk) (text_free : w + 64 ≤ length text)
         (errors_free : e + 8 ≤ length errors)
         (comes : Walks r.context (byte_walk builtin r.context (at_of r) (get_or chunk at 0)) text w errors e x text' errors'
-        × (x.text ≤ w + 64) × (x.errors ≤ e + 8)) where
+        × ((x.ends.text ≤ w + 64) × (x.ends.errors ≤ e + 8))) where
       next : Walks r.context (byte_walk builtin r.context (at_of r) (get_or chunk at 0)) text w errors e x text' errors'
       next = comes.0
 
       -- What it writes is bounded.
-      text_bounded : x.text ≤ w + 64
-      text_bounded = comes.1
+      text_bounded : x.ends.text ≤ w + 64
+      text_bounded = comes.1.0
 
-      errors_bounded : x.errors ≤ e + 8
-      errors_bounded = comes.2
+      errors_bounded : x.ends.errors ≤ e + 8
+      errors_bounded = comes.1.1
 
       -- There is room for it.
       room : lacks_room (length text - w) (length errors - e) ≡ false
@@ -326,11 +326,11 @@ module _ {start : Stream} {chunk text₀ errors₀ : List ℕ} where
       record_is : x.«record» ≡ record_of start.context byte.stop
       record_is = next.recorded ∙ ap₂ (λ (c : Context) (y : Walked). record_of c y.stop) taken_context same
 
-      wrote_is : Wrote byte.gives text w text' x.text errors e errors' x.errors
-      wrote_is = subst (λ (y : Walked). Wrote y.gives text w text' x.text errors e errors' x.errors) same next.wrote
+      wrote_is : Wrote byte.gives text w text' x.ends.text errors e errors' x.ends.errors
+      wrote_is = subst (λ (y : Walked). Wrote y.gives text w text' x.ends.text errors e errors' x.ends.errors) same next.wrote
 
       -- It is taken.
-      pub taken_byte : x.answer ≡ done → Taken start chunk text₀ errors₀ x.«record» (at + 1) text' x.text errors' x.errors
+      pub taken_byte : x.answer ≡ done → Taken start chunk text₀ errors₀ x.«record» (at + 1) text' x.ends.text errors' x.ends.errors
       taken_byte e =
           let d : byte.answer ≡ done = sym answer_is ∙ e in
           let opened = open_byte start.context (get_or chunk at 0) g.still_open d in
@@ -359,7 +359,7 @@ module _ {start : Stream} {chunk text₀ errors₀ : List ℕ} where
 
     -- The walk of the code ends here.
     abbrev ended : ℕ → code.Walked
-    ended answer = record { answer = answer; «record» = r; text = w; errors = e }
+    ended answer = record { answer = answer; «record» = r; ends = record { text = w; errors = e } }
 
     ended_bounded : (answer : ℕ) → Bounded start (length chunk) (ended answer)
     ended_bounded answer =

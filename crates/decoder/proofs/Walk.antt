@@ -1,17 +1,17 @@
 -- The walk over a covered source: what was read so far is written, and with what is still to be read it is the whole reading.
-use Prim.Native.Nat.{ℕ, ◌+◌, ◌-◌, ◌*◌, ◌/◌, ◌≤◌, ◌<◌}
+use Prim.Native.Nat.{ℕ, ◌+◌, ◌-◌, ◌*◌, ◌≤◌, ◌<◌}
 use mathlib.Core.Path.{◌≡◌, refl, sym, ◌∙◌, ap}
 use mathlib.Core.List.{List, []}
-use native.Mathlib.Nat.{mul_comm, mul-le-mul_right}
+use native.Mathlib.Nat.{mul_comm, mul-add, mul-le-mul_left, mul-le-mul_right}
 use native.Mathlib.Omega.{arith}
 use lib.ListN.{length, take, drop, length-append, length-drop, drop_of_length-le}
 use lib.Seq.{drop-drop}
-use Rattle.lists.specs.Bytes.{fours}
 use Rattle.lists.specs.Rooms.{Put}
-use Rattle.lists.proofs.Puts.{put_length, take-written}
-use Rattle.lists.proofs.Layings.{Laying}
+use Rattle.lists.proofs.Puts.{put_none, put_length, take-written}
+use Rattle.lists.specs.Layings.{Laying}
+use borrow.Author.Tests.{eq-eqb}
+use Rattle.lists.proofs.Choice.{length_none}
 use Rattle.standard.specs.declared.Context.{Context}
-use Rattle.standard.specs.Names.{table_of, records}
 use Rattle.standard.specs.NameList.{builtin}
 use Rattle.standard.specs.Pieces as standard
 use Rattle.standard.specs.Pieces.{piece_at}
@@ -19,12 +19,10 @@ use Rattle.standard.specs.Reading.{pieces_from, pieces, Reading, reading, readin
 use Rattle.standard.specs.Errors.{numbers}
 use Rattle.standard.proofs.Ascii.{joined-run}
 use Rattle.standard.proofs.Bounds.{pieces_unfold, text_fits, errors_fit}
-use Rattle.standard.proofs.BuiltinNames.{table-read}
 use Rattle.standard.proofs.Joining.{numbers-length, ⊕-assoc, ⊕-none}
 use Rattle.standard.proofs.Narrow.{builtin_narrow}
 use Rattle.standard.proofs.PieceSize.{piece-size}
 use Rattle.standard.proofs.Skips.{rest_from}
-use Rattle.rooms.proofs.Fits.{numbers_fit}
 use Rattle.decoder.specs.declared.pieces.Piece.{Piece}
 use Rattle.decoder.specs.Pieces.{piece_of}
 use Rattle.standard.specs.Contexts.{end_byte}
@@ -35,10 +33,10 @@ use Rattle.decoder.proofs.Plain.{plain-is}
 use Rattle.decoder.proofs.Writing.{by_none, by_join, wrote_text, wrote-join}
 
 -- A piece that is read at at.
-module _ (context : Context) (s : List ℕ) (at : ℕ) {table : List ℕ} (q : Piece) (table_is : table ≡ table_of builtin)
-    (q-is : piece_of q ≡ piece_at (records table) context (take (length s - at) (drop at s))) (more : at < length s) where
+module _ (context : Context) (s : List ℕ) (at : ℕ) (q : Piece)
+    (q-is : piece_of q ≡ piece_at builtin context (take (length s - at) (drop at s))) (more : at < length s) where
   piece_is : piece_of q ≡ piece_at builtin context (drop at s)
-  piece_is = q-is ∙ rw (table_is, table-read, rest_from s at)
+  piece_is = q-is ∙ rw (rest_from s at)
 
   left : 0 < length (drop at s)
   left = simp length-drop (omega arith)
@@ -82,38 +80,38 @@ module _ {context : Context} {s : List ℕ} {at free end : ℕ} (run : PlainRun 
   }
 
   -- The piece after it is written.
-  pub advances_piece : {table errors text' errors' : List ℕ} {e w' e' : ℕ} (q : Piece) → table ≡ table_of builtin
-      → piece_of q ≡ piece_at (records table) context (take (length s - end) (drop end s)) → end < length s
+  pub advances_piece : {errors text' errors' : List ℕ} {e w' e' : ℕ} (q : Piece)
+      → piece_of q ≡ piece_at builtin context (take (length s - end) (drop end s)) → end < length s
       → Wrote (reading_at end (piece_of q)) mid m text' w' errors e errors' e' → e' ≤ e + 4
       → Advances context s at (end + q.size) text w text' w' errors e errors' e'
-  advances_piece {errors = errors} {e = e} q table_is q-is more wrote few =
-      let there = piece_there context s end q table_is q-is more in
+  advances_piece {errors = errors} {e = e} q q-is more wrote few =
+      let there = piece_there context s end q q-is more in
       let copied : Reading = reading (take (end - at) (drop at s)) [] in record {
         onward = omega (arith, run.from);
         there = there.1;
         gives = copied ⊕ reading_at end (piece_of q);
-        splits = run_splits ∙ ap (λ (r : Reading). copied ⊕ r) (piece_splits context s end q table_is q-is more)
+        splits = run_splits ∙ ap (λ (r : Reading). copied ⊕ r) (piece_splits context s end q q-is more)
             ∙ sym (⊕-assoc copied (reading_at end (piece_of q)) (read_from context s (end + q.size)));
         wrote = wrote-join (wrote_text errors e put) wrote;
         few = few;
       }
 
 -- The rooms as they were lent, and as they are with at bytes read: text up to w and errors, laid so, up to e are written.
-pub record Going (lay : List ℕ → List ℕ) (context : Context) (s text₀ errors₀ : List ℕ) (at : ℕ) (text : List ℕ) (w : ℕ)
-    (errors : List ℕ) (e : ℕ) : Type 0 where
+pub record Going {A : Type 0} (lay : List ℕ → List A) (context : Context) (s text₀ : List ℕ) (errors₀ : List A) (at : ℕ) (text : List ℕ) (w : ℕ)
+    (errors : List A) (e : ℕ) : Type 0 where
   pub there : at ≤ length s
   pub so_far : Reading
   pub whole : so_far ⊕ read_from context s at ≡ decode builtin context s
   pub wrote : WroteBy lay so_far text₀ 0 text w errors₀ 0 errors e
 
-module _ {width : ℕ} {lay : List ℕ → List ℕ} (laid : Laying width lay) {context : Context} {s text₀ errors₀ : List ℕ} where
+module _ {A : Type 0} {width : ℕ} {lay : List ℕ → List A} (laid : Laying width lay) {context : Context} {s text₀ : List ℕ} {errors₀ : List A} where
   -- Nothing is read yet.
   pub going_start : Going lay context s text₀ errors₀ 0 text₀ 0 errors₀ 0
   going_start = record { there = omega arith; so_far = reading [] []; whole = refl; wrote = by_none laid text₀ 0 errors₀ 0 }
 
-  module _ {at w e : ℕ} {text errors : List ℕ} (g : Going lay context s text₀ errors₀ at text w errors e) where
+  module _ {at w e : ℕ} {text : List ℕ} {errors : List A} (g : Going lay context s text₀ errors₀ at text w errors e) where
     -- More was read, and is written with its numbers laid so.
-    pub going_on : {text' errors' few few' : List ℕ} {next w' e' n n' : ℕ} (a : Advances context s at next text w text' w' few n few' n')
+    pub going_on : {text' few few' : List ℕ} {errors' : List A} {next w' e' n n' : ℕ} (a : Advances context s at next text w text' w' few n few' n')
         → WroteBy lay a.gives text w text' w' errors e errors' e' → Going lay context s text₀ errors₀ next text' w' errors' e'
     going_on {next = next} a wrote = record {
       there = a.there;
@@ -154,11 +152,27 @@ module _ {width : ℕ} {lay : List ℕ → List ℕ} (laid : Laying width lay) {
           put_length q,
         )
 
--- A reading whose numbers were written into an array, and from there as bytes.
-pub wrote_through : {r : Reading} {text text' few few' errors errors' : List ℕ} {w w' n e e' : ℕ} → Wrote r text w text' w' few 0 few' n
-    → n ≤ length few → e + 4 * n ≤ length errors → Put errors e (fours (take ((length errors - e) / 4) (take n few'))) errors' e'
-    → WroteBy fours r text w text' w' errors e errors' e'
-wrote_through {r} {few = few} {n = n} a h room p =
+-- The numbers of a piece have room after those of m errors' numbers.
+pub room_left : (each m : ℕ) {e n room : ℕ} → e ≤ each * m → each * (m + 8) ≤ room → n ≤ 4 → e + each * n ≤ room
+room_left each m {n = n} h k few = omega (arith, h, k, mul-add each m 8, mul-le-mul_left each (let l : n ≤ 8 = omega (arith, few) in l))
+
+-- A reading whose numbers were written into an array, and from there laid so.
+pub wrote_through : {A : Type 0} {lay : List ℕ → List A} {r : Reading} {text text' few few' : List ℕ} {errors errors' : List A}
+    {w w' n e e' : ℕ} → Wrote r text w text' w' few 0 few' n → n ≤ length few → Put errors e (lay (take n few')) errors' e'
+    → WroteBy lay r text w text' w' errors e errors' e'
+wrote_through {r = r} {few = few} {n = n} a h p =
     let is : n ≡ length (numbers r.errors) = omega (arith, a.numbers_of.next_is) in
-    let all = rw (a.numbers_of.new_is, is, take-written few (numbers r.errors) (length (numbers r.errors)) refl (omega arith)) at p in
-    record { texts = a.texts; numbers_of = numbers_fit (numbers r.errors) (omega arith) all }
+    record {
+      texts = a.texts;
+      numbers_of = rw (a.numbers_of.new_is, is, take-written few (numbers r.errors) (length (numbers r.errors)) refl (omega arith)) at p;
+    }
+
+-- A reading without errors needs no room for their numbers.
+pub wrote_nothing : {A : Type 0} {each : ℕ} {lay : List ℕ → List A} (laid : Laying each lay) {r : Reading} {text text' few few' : List ℕ} {w w' n : ℕ}
+    → Wrote r text w text' w' few 0 few' n → n ≡ 0 → (errors : List A) (e : ℕ) → WroteBy lay r text w text' w' errors e errors e
+wrote_nothing {lay = lay} laid {r} a none errors e =
+    record {
+      texts = a.texts;
+      numbers_of = rw (ap lay (length_none (numbers r.errors) (eq-eqb _ 0 (omega (arith, a.numbers_of.next_is, none)))) ∙ laid.none)
+          (put_none errors e);
+    }

@@ -3,26 +3,27 @@ use Prim.Native.Nat.{ℕ}
 use mathlib.Core.List.{List, []}
 use Rattle.lists.specs.Rooms.{Put}
 use Rattle.lists.proofs.Puts.{put_none, put_join}
-use Rattle.lists.proofs.Layings.{Laying, laid-plainly}
+use Rattle.lists.specs.Layings.{Laying}
+use Rattle.lists.proofs.Layings.{laid-plainly}
 use Rattle.standard.specs.Errors.{numbers}
 use Rattle.standard.specs.Reading.{Reading, reading, ◌⊕◌}
 use Rattle.standard.proofs.Joining.{numbers-append}
 use Rattle.decoder.specs.Writing.{WroteBy, Wrote}
 
-module _ {width : ℕ} {lay : List ℕ → List ℕ} (laid : Laying width lay) where
+module _ {A : Type 0} {width : ℕ} {lay : List ℕ → List A} (laid : Laying width lay) where
   -- No reading is written.
-  pub by_none : (text : List ℕ) (w : ℕ) (errors : List ℕ) (e : ℕ) → WroteBy lay (reading [] []) text w text w errors e errors e
+  pub by_none : (text : List ℕ) (w : ℕ) (errors : List A) (e : ℕ) → WroteBy lay (reading [] []) text w text w errors e errors e
   unfolding numbers
   by_none text w errors e = record { texts = put_none text w; numbers_of = rw laid.none (put_none errors e) }
 
   -- Text alone is written.
-  pub by_text : {t text text' : List ℕ} {w w' : ℕ} (errors : List ℕ) (e : ℕ) → Put text w t text' w'
+  pub by_text : {t text text' : List ℕ} {w w' : ℕ} (errors : List A) (e : ℕ) → Put text w t text' w'
       → WroteBy lay (reading t []) text w text' w' errors e errors e
   unfolding numbers
   by_text errors e p = record { texts = p; numbers_of = rw laid.none (put_none errors e) }
 
   -- Two readings are written one after the other.
-  pub by_join : {a b : Reading} {t t' t'' : List ℕ} {w w' w'' : ℕ} {n n' n'' : List ℕ} {e e' e'' : ℕ} → WroteBy lay a t w t' w' n e n' e'
+  pub by_join : {a b : Reading} {t t' t'' : List ℕ} {w w' w'' : ℕ} {n n' n'' : List A} {e e' e'' : ℕ} → WroteBy lay a t w t' w' n e n' e'
       → WroteBy lay b t' w' t'' w'' n' e' n'' e'' → WroteBy lay (a ⊕ b) t w t'' w'' n e n'' e''
   by_join {a} {b} x y = record {
     texts = put_join x.texts y.texts;

@@ -1,5 +1,28 @@
 -- What a walk of the code over bytes comes to, as the definition's walk does.
-use Rattle.std.specs.Prelude.{ℕ, suc, ◌+◌, ◌-◌, ◌*◌, ◌≤◌, ◌≡◌, List, [], ◌∷◌, ◌++◌, true, not, eqb, ltb, length, take, drop, if◌then◌else◌}
+use Rattle.std.specs.Prelude.{
+  ℕ,
+  suc,
+  ◌+◌,
+  ◌-◌,
+  ◌*◌,
+  ◌≤◌,
+  ◌≡◌,
+  List,
+  [],
+  ◌∷◌,
+  ◌++◌,
+  true,
+  not,
+  eqb,
+  ltb,
+  length,
+  take,
+  drop,
+  if◌then◌else◌,
+  Option,
+  Some,
+  None,
+}
 use Rattle.standard.specs.declared.Context.{Context}
 use Rattle.standard.specs.Utf8.{read_char}
 use Rattle.standard.specs.Answers.{done, too_long, stream_too_long, no_room, closed, longest_slice, longest_stream}
@@ -13,14 +36,14 @@ use Rattle.decoder.specs.Machine.{Step, step}
 use Rattle.decoder.specs.Stream as spec
 use Rattle.decoder.specs.Turns.{Fits}
 
--- Why a chunk of so many bytes is refused, and 0 where it is not: by the record, and how much room there is.
-unfoldable pub refusal_of : List Name → Stream → (chunk text errors : ℕ) → ℕ
+-- Why a chunk of so many bytes is refused, if it is: by the record, and how much room there is.
+unfoldable pub refusal_of : List Name → Stream → (chunk text errors : ℕ) → Option ℕ
 refusal_of names r chunk text errors =
-    if not (spec.is_open names r) then closed
-    else if ltb longest_slice chunk then too_long
-    else if ltb longest_stream (r.taken + chunk) then stream_too_long
-    else if spec.lacks_room text errors then no_room
-    else done
+    if not (spec.is_open names r) then Some closed
+    else if ltb longest_slice chunk then Some too_long
+    else if ltb longest_stream (r.taken + chunk) then Some stream_too_long
+    else if spec.lacks_room text errors then Some no_room
+    else None
 
 -- Where an open stream can be.
 pub record OpenAt (at : spec.At) : Type 0 where
@@ -56,12 +79,12 @@ pub record Walks (context : Context) (walk : spec.Walked) (text : List ℕ) (w :
     : Type 0 where
   pub answered : r.answer ≡ walk.answer
   pub recorded : r.«record» ≡ spec.record_of context walk.stop
-  pub wrote : Wrote walk.gives text w text' r.text errors e errors' r.errors
+  pub wrote : Wrote walk.gives text w text' r.ends.text errors e errors' r.ends.errors
 
 -- What the numbers of a walk over n bytes are bounded by.
 pub record Bounded (start : Stream) (n : ℕ) (r : Walked) : Type 0 where
-  pub text_few : r.text ≤ 64 * n
-  pub errors_few : r.errors ≤ 8 * n
+  pub text_few : r.ends.text ≤ 64 * n
+  pub errors_few : r.ends.errors ≤ 8 * n
   pub onward : start.taken ≤ r.«record».taken
   pub there : r.«record».part_count ≤ r.«record».taken
 

@@ -1,5 +1,5 @@
 -- What the code skims of a chunk where nothing is held.
-use Rattle.std.specs.Prelude.{ℕ, ◌+◌, ◌-◌, ◌*◌, ◌≤◌, ◌≡◌, List, [], Bool, true, ◌||◌, ◌&&◌, ◌⊎◌, eqb, ltb, leb, length, get_or, take, drop}
+use Rattle.std.specs.Prelude.{ℕ, ◌+◌, ◌-◌, ◌*◌, ◌≤◌, ◌≡◌, List, [], Bool, true, ◌||◌, ◌&&◌, eqb, leb, length, get_or, take, drop, Option, IfSome}
 use Prim.Native.Char.{code}
 use Rattle.lists.specs.Notation.{every}
 use Rattle.standard.specs.declared.Context.{Context}
@@ -10,7 +10,7 @@ use Rattle.standard.specs.Reading.{Reading, reading_at}
 use Rattle.decoder.specs.Writing.{Wrote}
 use Rattle.decoder.specs.declared.pieces.Piece.{Piece}
 use Rattle.decoder.specs.Machine.{Data}
-use Rattle.decoder.specs.Pieces.{piece_of, none_of}
+use Rattle.decoder.specs.Pieces.{piece_of}
 use Rattle.standard.specs.Contexts.{end_byte}
 use Rattle.runs.specs.Kinds.{plain}
 use Rattle.decoder.specs.Stream.{at_by, stops_at, walk}
@@ -33,9 +33,9 @@ pub record Closes (s : List ℕ) (n : ℕ) : Type 0 where
   pub last : get_or s (n - 1) 0 ≡ code ";"
   pub between : every in_reference (take (n - 2) (drop 1 s)) ≡ true
 
--- Such bytes, or none.
-abbrev pub Ends : List ℕ → ℕ → Type 0
-Ends s n = (n ≡ 0) ⊎ Closes s n
+-- So many such bytes, or none.
+abbrev pub ClosesAt : List ℕ → Option ℕ → Type 0
+ClosesAt s end = IfSome end (Closes s)
 
 -- A piece at the front of s that a walk with nothing held reads as such, with nothing held after it, where its room is there.
 pub record Stands (context : Context) (s : List ℕ) (p : Piece) : Type 0 where
@@ -44,13 +44,13 @@ pub record Stands (context : Context) (s : List ℕ) (p : Piece) : Type 0 where
   pub walks : (text errors q : ℕ) → 64 + p.size ≤ text → 8 + 2 * p.size ≤ errors
       → walk builtin context text errors (at_by Data [] q) (take p.size s) ≡ stops_at done (reading_at q (piece_of p)) (at_by Data [] (q + p.size))
 
--- Such a piece, or one of no bytes.
-abbrev pub Alone : Context → List ℕ → Piece → Type 0
-Alone context s p = (p ≡ none_of 0) ⊎ Stands context s p
+-- Such a piece, or none.
+abbrev pub Alone : Context → List ℕ → Option Piece → Type 0
+Alone context s piece = IfSome piece (Stands context s)
 
--- So much room is enough for a piece of size bytes and before each of them, where it has any.
+-- So much room is enough for a piece of size bytes and before each of them.
 abbrev pub has_room : (size text errors : ℕ) → Bool
-has_room size text errors = ltb 0 size && leb (64 + size) text && leb (8 + 2 * size) errors
+has_room size text errors = leb (64 + size) text && leb (8 + 2 * size) errors
 
 -- The bytes of s from `from` to at were read with nothing held before and after, before bytes were taken before s, and what they give was written.
 pub record Skims (context : Context) (before : ℕ) (s : List ℕ) (from at : ℕ) (text : List ℕ) (w : ℕ) (text' : List ℕ) (w' : ℕ) (errors : List ℕ)

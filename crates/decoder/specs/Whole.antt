@@ -57,8 +57,8 @@ decoded_of context s text errors =
     decoded answer (text_named answer s written) (length written.errors) (place_named answer (stop_of context s))
 
 -- What a call gives for a source and two rooms, with room for so many error numbers, laid so: its result, and what the rooms then hold.
-pub record DecodesBy (lay : List ℕ → List ℕ) (room : ℕ) (context : Context) (source text errors : List ℕ) (r : Decoded) (text' errors' : List ℕ)
-    : Type 0 where
+pub record DecodesBy {A : Type 0} (lay : List ℕ → List A) (room : ℕ) (context : Context) (source text : List ℕ) (errors : List A) (r : Decoded)
+    (text' : List ℕ) (errors' : List A) : Type 0 where
   pub answered : r ≡ decoded_of context source (length text) room
   pub texts : text' ≡ sets text 0 (written_of context source (length text) room).text
   pub numbers_of : errors' ≡ sets errors 0 (lay (numbers (written_of context source (length text) room).errors))

@@ -9,17 +9,30 @@ use Rattle.standard.specs.Errors.{numbers}
 use Rattle.standard.specs.NameList.{builtin}
 use Rattle.standard.specs.Reading.{stop_of, pieces, Reading, reading, ◌⊕◌, joined, decode}
 use Rattle.decoder.specs.declared.whole.Decoded.{Decoded}
+use Rattle.decoder.specs.declared.writers.Ends.{Ends}
 use Rattle.decoder.specs.Whole.{decoded, answer_of, text_named}
 
 -- A reading was written into a text room from w on, and into an error room from e on, with its numbers laid so.
-pub record WroteBy (lay : List ℕ → List ℕ) (r : Reading) (text : List ℕ) (w : ℕ) (text' : List ℕ) (w' : ℕ)
-    (errors : List ℕ) (e : ℕ) (errors' : List ℕ) (e' : ℕ) : Type 0 where
+pub record WroteBy {A : Type 0} (lay : List ℕ → List A) (r : Reading) (text : List ℕ) (w : ℕ) (text' : List ℕ) (w' : ℕ)
+    (errors : List A) (e : ℕ) (errors' : List A) (e' : ℕ) : Type 0 where
   pub texts : Put text w r.text text' w'
   pub numbers_of : Put errors e (lay (numbers r.errors)) errors' e'
 
 -- The same in a room of numbers.
 abbrev pub Wrote : (r : Reading) (text : List ℕ) (w : ℕ) (text' : List ℕ) (w' : ℕ) (errors : List ℕ) (e : ℕ) (errors' : List ℕ) (e' : ℕ) → Type 0
 Wrote = WroteBy plainly
+
+-- The same from where the writing ended before to where it ends then.
+abbrev pub Writes : Reading → Ends → (text errors : List ℕ) → Ends → (text' errors' : List ℕ) → Type 0
+Writes r ends text errors ends' text' errors' = Wrote r text ends.text text' ends'.text errors ends.errors errors' ends'.errors
+
+-- After it the room is free that is asked for before a byte.
+abbrev pub Free : Ends → (text errors : List ℕ) → Type 0
+Free ends text errors = (ends.text + 64 ≤ length text) × (ends.errors + 8 ≤ length errors)
+
+-- No more than that was used.
+abbrev pub Used : Ends → Ends → Type 0
+Used ends ends' = (ends'.text ≤ ends.text + 64) × (ends'.errors ≤ ends.errors + 8)
 
 -- What is read of s from at on.
 abbrev pub read_from : Context → List ℕ → ℕ → Reading
@@ -47,8 +60,8 @@ abbrev pub end_named : (answer length : ℕ) → ℕ
 end_named answer length = if eqb answer context_end then length else 0
 
 -- A covered part was read: the result says what was written, and the rooms hold it, the error numbers laid so.
-pub record ReadCovered (lay : List ℕ → List ℕ) (context : Context) (s : List ℕ) (answer : ℕ) (text errors : List ℕ) (r : Decoded)
-    (text' errors' : List ℕ) : Type 0 where
+pub record ReadCovered {A : Type 0} (lay : List ℕ → List A) (context : Context) (s : List ℕ) (answer : ℕ) (text : List ℕ) (errors : List A)
+    (r : Decoded) (text' : List ℕ) (errors' : List A) : Type 0 where
   pub answered : r
       ≡ decoded answer (length (decode builtin context s).text) (length (decode builtin context s).errors) (end_named answer (length s))
   pub texts : text' ≡ sets text 0 (decode builtin context s).text

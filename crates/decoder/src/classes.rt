@@ -5,59 +5,25 @@ ghost use Rattle.standard.specs.Classes as standard;
 pub(crate) fn noncharacter(c: u32) -> bool
     ensures { result ≡ standard.noncharacter c }
 {
-    if c < 0xFDD0 {
-        return false;
-    }
-    if c <= 0xFDEF {
-        return true;
-    }
-    0xFFFE <= c % 0x10000
+    matches!(c, 0xFDD0..=0xFDEF) || 0xFFFE <= c % 0x10000
 }
 
 pub(crate) fn control(c: u32) -> bool
     ensures { result ≡ standard.control c }
 {
-    if c <= 0x1F {
-        return true;
-    }
-    if c < 0x7F {
-        return false;
-    }
-    c <= 0x9F
+    matches!(c, 0x0..=0x1F | 0x7F..=0x9F)
 }
 
 pub(crate) fn whitespace(c: u32) -> bool
     ensures { result ≡ standard.whitespace c }
 {
-    match c {
-        0x9 => true,
-        0xA => true,
-        0xC => true,
-        0xD => true,
-        0x20 => true,
-        _ => false,
-    }
+    matches!(c, 0x9 | 0xA | 0xC | 0xD | 0x20)
 }
 
 pub(crate) fn alphanumeric(b: u8) -> bool
     ensures { result ≡ standard.alphanumeric b }
 {
-    if b < b'0' {
-        return false;
-    }
-    if b <= b'9' {
-        return true;
-    }
-    if b < b'A' {
-        return false;
-    }
-    if b <= b'Z' {
-        return true;
-    }
-    if b < b'a' {
-        return false;
-    }
-    b <= b'z'
+    b.is_ascii_alphanumeric()
 }
 
 // The code of a character that stands for itself.

@@ -3,6 +3,8 @@
 
 mod classes;
 mod feeding;
+mod laying;
+mod names;
 mod numbers;
 mod opening;
 mod pieces;

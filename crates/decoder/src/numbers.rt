@@ -5,7 +5,7 @@ ghost use Rattle.standard.specs.Numbers.{digit_of, is_digit, number, replacement
 
 use crate::classes::{control, noncharacter, whitespace};
 
-// What a byte counts as a digit; 16 where it is none.
+// What a byte counts as a digit; 16 where it is none, so that one comparison with the base tells both.
 pub(crate) fn digit_of(b: u8) -> u32
     ensures { result ≡ digit_of b }
 {
@@ -30,17 +30,17 @@ pub(crate) fn digit_of(b: u8) -> u32
     16
 }
 
-// A number, or the first past the last code point where it is larger.
+// The first number past the last code point. A value stops there, so it never wraps.
+const PAST_LAST: u32 = 0x110000;
+
+// A number, or that one where it is larger.
 pub(crate) fn stopped(n: u32) -> u32
     ensures { result ≡ min n 0x110000 }
 {
-    if n < 0x110000 {
-        return n;
-    }
-    0x110000
+    n.min(PAST_LAST)
 }
 
-// One digit more. The value stops at the first number past the last code point, so it never wraps.
+// One digit more.
 pub(crate) fn add_digit(value: u32, base: u32, digit: u32) -> u32
     requires { (value ≤ 0x110000) × (base ≤ 16) × (digit ≤ 16) }
     ensures { result ≡ min (value * base + digit) 0x110000 }
@@ -62,16 +62,17 @@ pub(crate) fn do_numeric(rest: &[u8], from: usize, base: u32) -> Digits
         × (result.value ≡ min (number base (front (is_digit base) (drop from rest.now))) 0x110000) }
 {
     let mut value: u32 = 0;
-    let mut end = from;
-    while end < rest.len() {
+    for end in from..rest.len() {
         let digit = digit_of(rest[end]);
         if base <= digit {
             return Digits { end, value };
         }
         value = add_digit(value, base, digit);
-        end += 1;
     }
-    Digits { end, value }
+    Digits {
+        end: rest.len(),
+        value,
+    }
 }
 
 // C1_REPLACEMENTS, from 0x80 on; a number that has no replacement stands for itself.
@@ -84,17 +85,13 @@ const C1_REPLACEMENTS: [u32; 32] = [
 pub(crate) fn replacement(n: u32) -> u32
     ensures { result ≡ replaced_by replacements n }
 {
-    if n < 0x80 {
-        return n;
+    match n {
+        0x80..=0x9F => C1_REPLACEMENTS[(n - 0x80) as usize],
+        _ => n,
     }
-    if 0x9F < n {
-        return n;
-    }
-    let at = (n - 0x80) as usize;
-    C1_REPLACEMENTS[at]
 }
 
-// What a number means: a character, and the code of an error or 0.
+// What a number means: a character, and the code of an error or 0, which `listed` reads as none.
 #[derive(Clone, Copy)]
 pub(crate) struct Meant {
     pub char: u32,

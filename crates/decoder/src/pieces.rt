@@ -1,19 +1,21 @@
 // One piece: a newline, a character that stands for itself, or a reference. It is read from a slice and handed back as a value;
 // whoever has a room writes it.
-ghost use Rattle.std.specs.Prelude.{◌≡◌, ◌≤◌, ◌<◌, length, drop, if◌then◌else◌};
+ghost use Rattle.std.specs.Prelude.{◌≡◌, ◌≤◌, ◌<◌, length, drop, IfSome, if◌then◌else◌};
 ghost use Rattle.lists.specs.Notation.{next};
 ghost use Rattle.standard.specs.Utf8.{read_char};
-ghost use Rattle.standard.specs.Names.{records, longest};
+ghost use Rattle.standard.specs.Names.{longest, found_of};
+ghost use Rattle.standard.specs.NameList.{builtin};
 ghost use Rattle.standard.specs.Pieces as standard;
 ghost use Rattle.decoder.specs.Pieces.{piece_of, one_of, none_of};
 
 use crate::classes::{alphanumeric, character_code};
+use crate::names::longest_name;
 use crate::numbers::{do_numeric, finish_numeric};
 use standard::Context;
-use standard::characters::CharRead;
-use standard::names::{CharRef, Found, longest_name};
+use standard::characters::{CharRead, read_char};
+use standard::names::{CharRef, Found};
 
-// How many source bytes a piece has, its characters, and its codes, each 0 where there is none.
+// How many source bytes a piece has, its characters, and its codes, each 0 where there is none: so `listed` reads them, and so they are written.
 #[derive(Clone, Copy)]
 pub(crate) struct Piece {
     pub size: usize,
@@ -55,10 +57,10 @@ impl Piece {
 fn next_is(rest: &[u8], at: usize, byte: u8) -> bool
     ensures { result ≡ next byte (drop at rest.now) }
 {
-    if at < rest.len() {
-        return rest[at] == byte;
+    match rest.get(at) {
+        Some(&b) => b == byte,
+        None => false,
     }
-    false
 }
 
 // Digits of the base from `from` on, after the intro bytes `&#` or `&#x`, and their `;` if it stands there.
@@ -96,8 +98,7 @@ fn numeric(rest: &[u8]) -> Piece
 fn unknown_name(rest: &[u8]) -> bool
     ensures { result ≡ standard.unknown_name rest.now }
 {
-    let mut at: usize = 0;
-    while at < rest.len() {
+    for at in 0..rest.len() {
         let b = rest[at];
         if !alphanumeric(b) {
             if b == b';' {
@@ -105,7 +106,6 @@ fn unknown_name(rest: &[u8]) -> bool
             }
             return false;
         }
-        at += 1;
     }
     false
 }
@@ -114,32 +114,23 @@ fn unknown_name(rest: &[u8]) -> bool
 fn stays_text(context: Context, rest: &[u8], at: usize) -> bool
     ensures { result ≡ standard.stays_text context (drop at rest.now) }
 {
-    if let Context::Text = context {
-        return false;
+    match (context, rest.get(at)) {
+        (Context::Attribute, Some(&b)) => b == b'=' || alphanumeric(b),
+        _ => false,
     }
-    if rest.len() <= at {
-        return false;
-    }
-    let b = rest[at];
-    if b == b'=' {
-        return true;
-    }
-    alphanumeric(b)
 }
 
 // A named reference, with rest after its `&` and what was found there: `finish_named`.
-pub(crate) fn named_by(context: Context, found: Found, rest: &[u8]) -> Piece
-    requires { found.len ≤ length rest.now }
-    ensures { piece_of result ≡ standard.named_by context found rest.now }
+pub(crate) fn named_by(context: Context, found: Option<Found>, rest: &[u8]) -> Piece
+    requires { IfSome found (λ f. (1 ≤ f.len) × (f.len ≤ length rest.now)) }
+    ensures { piece_of result ≡ standard.named_by context (found_of found) rest.now }
 {
-    let len = found.len;
-    if len == 0 {
+    let Some(Found { len, reference }) = found else {
         if unknown_name(rest) {
             return Piece::one(1, 0x26, 4, 0);
         }
         return Piece::one(1, 0x26, 0, 0);
-    }
-    let reference = found.reference;
+    };
     if rest[len - 1] == b';' {
         return Piece {
             size: len + 1,
@@ -160,21 +151,20 @@ pub(crate) fn named_by(context: Context, found: Found, rest: &[u8]) -> Piece
 }
 
 // A named reference, with rest after its `&`: `do_named`.
-pub(crate) fn named(table: &[u8], context: Context, rest: &[u8]) -> Piece
-    ensures { piece_of result ≡ standard.named_by context (longest (records table.now) rest.now) rest.now }
+pub(crate) fn named(context: Context, rest: &[u8]) -> Piece
+    ensures { piece_of result ≡ standard.named_by context (longest builtin rest.now) rest.now }
 {
-    let found = longest_name(table, rest);
-    named_by(context, found, rest)
+    named_by(context, longest_name(rest), rest)
 }
 
 // A reference, with rest after its `&`.
-pub(crate) fn reference(table: &[u8], context: Context, rest: &[u8]) -> Piece
-    ensures { piece_of result ≡ standard.reference (records table.now) context rest.now }
+pub(crate) fn reference(context: Context, rest: &[u8]) -> Piece
+    ensures { piece_of result ≡ standard.reference builtin context rest.now }
 {
     if next_is(rest, 0, b'#') {
         return numeric(&rest[1..]);
     }
-    named(table, context, rest)
+    named(context, rest)
 }
 
 // A newline, with rest after its CR: `get_preprocessed_char`.
@@ -191,23 +181,20 @@ fn newline(rest: &[u8]) -> Piece
 fn character(rest: &[u8]) -> Piece
     ensures { piece_of result ≡ standard.character (read_char rest.now) rest.now }
 {
-    match standard::characters::read_char(rest) {
+    match read_char(rest) {
         CharRead::Char { value, len } => Piece::one(len, value, character_code(value), 0),
         _ => Piece::none(1),
     }
 }
 
 // The piece at the front of rest, which has a byte.
-pub(crate) fn piece_at(table: &[u8], context: Context, rest: &[u8]) -> Piece
+pub(crate) fn piece_at(context: Context, rest: &[u8]) -> Piece
     requires { 0 < length rest.now }
-    ensures { piece_of result ≡ standard.piece_at (records table.now) context rest.now }
+    ensures { piece_of result ≡ standard.piece_at builtin context rest.now }
 {
-    let b = rest[0];
-    if b == b'\r' {
-        return newline(&rest[1..]);
+    match rest[0] {
+        b'\r' => newline(&rest[1..]),
+        b'&' => reference(context, &rest[1..]),
+        _ => character(rest),
     }
-    if b == b'&' {
-        return reference(table, context, &rest[1..]);
-    }
-    character(rest)
 }

@@ -1,27 +1,15 @@
 // A chunk where nothing is held: runs are copied, and other characters that stand for themselves and references that end in their own `;` are
 // written, without a look at the record.
-ghost use Rattle.std.specs.Prelude.{◌≡◌, ◌≤◌, ◌<◌, ◌+◌, ◌-◌, min, length, get_or, take, drop};
+ghost use Rattle.std.specs.Prelude.{◌≡◌, ◌≤◌, ◌<◌, ◌+◌, ◌-◌, length, get_or, take, drop};
 ghost use Rattle.lists.specs.Rooms.{Put};
-ghost use Rattle.standard.specs.Names.{table_of};
-ghost use Rattle.standard.specs.NameList.{builtin};
-ghost use Rattle.decoder.specs.Skims.{PlainRun, in_reference, Ends, Alone, has_room, Skims};
+ghost use Rattle.decoder.specs.Skims.{PlainRun, in_reference, ClosesAt, Alone, has_room, Skims};
 
 use crate::classes::{alphanumeric, character_code};
 use crate::pieces::{Piece, reference};
 use crate::stops::{calls_for, end_of};
-use crate::writers::{Reached, lacks_room, put_piece};
+use crate::writers::{Ends, Reached, lacks_room, put_piece};
 use standard::Context;
 use standard::characters::{CharRead, read_char};
-
-// The lesser of two numbers.
-fn least(a: usize, b: usize) -> usize
-    ensures { result ≡ min a b }
-{
-    if a < b {
-        return a;
-    }
-    b
-}
 
 // The place in the chunk up to which it was read, and the place after its text.
 #[derive(Clone, Copy)]
@@ -43,7 +31,7 @@ pub(crate) fn copy_run(
         × Put text.old w (take (result.at - at) (drop at chunk.now)) text.new result.text }
 {
     let free = text.len() - w - 63;
-    let limit = least(chunk.len() - at, free);
+    let limit = (chunk.len() - at).min(free);
     let end = runs::plain_end(end_of(context), &chunk[..at + limit], at);
     Copied {
         at: end,
@@ -55,123 +43,100 @@ pub(crate) fn copy_run(
 fn in_reference(b: u8) -> bool
     ensures { result ≡ in_reference b }
 {
-    if b == b'#' {
-        return true;
-    }
-    alphanumeric(b)
+    b == b'#' || alphanumeric(b)
 }
 
-// The place after the `;` of an `&` that such bytes follow; 0 where there is none.
-fn reference_end(rest: &[u8]) -> usize
-    ensures { Ends rest.now result }
+// The place after the `;` of an `&` that such bytes follow, if it stands there.
+fn reference_end(rest: &[u8]) -> Option<usize>
+    ensures { ClosesAt rest.now result }
 {
-    let mut at: usize = 1;
-    while at < rest.len() {
+    for at in 1..rest.len() {
         let b = rest[at];
         if b == b';' {
-            return at + 1;
+            return Some(at + 1);
         }
         if !in_reference(b) {
-            return 0;
+            return None;
         }
-        at += 1;
     }
-    0
+    None
 }
 
-// The reference at the front of rest as a piece, where it ends in its own `;`; else a piece of no bytes.
-fn closed(table: &[u8], context: Context, rest: &[u8]) -> Piece
-    requires { (table.now ≡ table_of builtin) × (0 < length rest.now) × (get_or rest.now 0 0 ≡ 0x26) }
+// The reference at the front of rest as a piece, if it ends in its own `;`.
+fn closed(context: Context, rest: &[u8]) -> Option<Piece>
+    requires { (0 < length rest.now) × (get_or rest.now 0 0 ≡ 0x26) }
     ensures { Alone context rest.now result }
 {
-    let end = reference_end(rest);
-    if end == 0 {
-        return Piece::none(0);
-    }
-    let piece = reference(table, context, &rest[1..end]);
+    let end = reference_end(rest)?;
+    let piece = reference(context, &rest[1..end]);
     if piece.size != end {
-        return Piece::none(0);
+        return None;
     }
-    piece
+    Some(piece)
 }
 
-// What stands at the front of rest as a piece, where it is a character that stands for itself and stops nothing, or a reference that ends in its own
-// `;`; else a piece of no bytes.
-fn alone(table: &[u8], context: Context, rest: &[u8]) -> Piece
-    requires { table.now ≡ table_of builtin }
+// What stands at the front of rest as a piece, if it is a character that stands for itself and stops nothing, or a reference that ends in its own
+// `;`.
+fn alone(context: Context, rest: &[u8]) -> Option<Piece>
     ensures { Alone context rest.now result }
 {
     let CharRead::Char { value, len } = read_char(rest) else {
-        return Piece::none(0);
+        return None;
     };
     if value == 0x26 {
-        return closed(table, context, rest);
+        return closed(context, rest);
     }
-    if value == 0xD {
-        return Piece::none(0);
+    if value == 0xD || calls_for(context, value) != 0 {
+        return None;
     }
-    if calls_for(context, value) != 0 {
-        return Piece::none(0);
-    }
-    Piece::one(len, value, character_code(value), 0)
+    Some(Piece::one(len, value, character_code(value), 0))
 }
 
-// Whether so much free room is enough for a piece of size bytes and before each of them, where it has any.
+// Whether so much free room is enough for a piece of size bytes and before each of them.
 fn has_room(size: usize, text: usize, errors: usize) -> bool
     requires { size ≤ 16777216 }
     ensures { result ≡ has_room size text errors }
 {
-    (0 < size) & (64 + size <= text) & (8 + 2 * size <= errors)
+    (64 + size <= text) & (8 + 2 * size <= errors)
 }
 
 // The chunk from `from` on, where before bytes were taken before it and nothing is held: as far as it stands for itself and has room.
 pub(crate) fn skim(
-    table: &[u8],
     context: Context,
     before: u32,
     chunk: &[u8],
     from: usize,
     text: &mut [u8],
-    w0: usize,
     errors: &mut [u32],
-    e0: usize,
+    start: Ends,
 ) -> Reached
-    requires { (table.now ≡ table_of builtin) × (before + length chunk.now ≤ 16777216) × (from ≤ length chunk.now)
-        × (w0 ≤ length text.old) × (e0 ≤ length errors.old) }
-    ensures { Skims context before chunk.now from result.at text.old w0 text.new result.text
-        errors.old e0 errors.new result.errors }
+    requires { (before + length chunk.now ≤ 16777216) × (from ≤ length chunk.now)
+        × (start.text ≤ length text.old) × (start.errors ≤ length errors.old) }
+    ensures { Skims context before chunk.now from result.at text.old start.text text.new result.ends.text
+        errors.old start.errors errors.new result.ends.errors }
 {
     let mut at = from;
-    let mut w = w0;
-    let mut e = e0;
+    let mut ends = start;
+    // A `while` and no `for`: each turn goes on by a run and a piece.
     while at < chunk.len() {
-        if lacks_room(text.len() - w, errors.len() - e) {
-            return Reached {
-                at,
-                text: w,
-                errors: e,
-            };
+        if lacks_room(text.len() - ends.text, errors.len() - ends.errors) {
+            return Reached { at, ends };
         }
-        let run = copy_run(context, chunk, at, text, w);
+        let run = copy_run(context, chunk, at, text, ends.text);
         at = run.at;
-        w = run.text;
-        let piece = alone(table, context, &chunk[at..]);
-        let size = piece.size;
-        if !has_room(size, text.len() - w, errors.len() - e) {
-            return Reached {
-                at,
-                text: w,
-                errors: e,
-            };
+        ends.text = run.text;
+        let Some(piece) = alone(context, &chunk[at..]) else {
+            return Reached { at, ends };
+        };
+        if !has_room(
+            piece.size,
+            text.len() - ends.text,
+            errors.len() - ends.errors,
+        ) {
+            return Reached { at, ends };
         }
-        let next = put_piece(text, w, errors, e, piece, before + at as u32);
-        w = next.text;
-        e = next.errors;
-        at += size;
+        ends = put_piece(text, errors, ends, piece, before + at as u32);
+        at += piece.size;
     }
-    Reached {
-        at,
-        text: w,
-        errors: e,
-    }
+    Reached { at, ends }
 }

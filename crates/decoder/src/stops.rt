@@ -6,7 +6,7 @@ ghost use Rattle.standard.specs.Reading.{calls_for, stop_of};
 use standard::Context;
 use standard::characters::{CharRead, read_char};
 
-// Why reading stops, and after how many bytes.
+// Why reading stops, and after how many bytes. An answer's number and no Result: with 0 and 7, too, it is what the caller hands on.
 #[derive(Clone, Copy)]
 pub(crate) struct Stopped {
     pub answer: u32,
@@ -23,21 +23,14 @@ pub(crate) fn end_of(context: Context) -> u8
     }
 }
 
-// A byte as a character.
-fn wide(b: u8) -> u32
-    ensures { result ≡ b }
-{
-    b as u32
-}
-
-// The answer that a character calls for, 0 where reading goes on.
+// The answer that a character calls for; a number and no Option, since 0, where reading goes on, is an answer too.
 pub(crate) fn calls_for(context: Context, c: u32) -> u32
     ensures { result ≡ calls_for context c }
 {
     if c == 0 {
         return 2;
     }
-    if c == wide(end_of(context)) {
+    if c == u32::from(end_of(context)) {
         return 7;
     }
     0
@@ -48,6 +41,7 @@ pub(crate) fn find_stop(context: Context, s: &[u8]) -> Stopped
     ensures { (result.answer ≡ (stop_of context s.now).answer) × (result.place ≡ (stop_of context s.now).place) }
 {
     let mut at: usize = 0;
+    // A `loop` and no `for`: each turn goes on by a run and a character.
     loop {
         let from = runs::ordinary_end(end_of(context), s, at);
         if s.len() <= from {

@@ -1,6 +1,5 @@
 // The chunk decoder: its record, and its calls.
 ghost use Rattle.std.specs.Prelude.{◌≡◌, true, ◌≤◌, ◌-◌, ◌/◌, length, take, if◌then◌else◌};
-ghost use Rattle.standard.specs.Names.{table_of};
 ghost use Rattle.standard.specs.NameList.{builtin};
 ghost use Rattle.decoder.specs.Stream as spec;
 ghost use Rattle.decoder.specs.Feeding.{refusal_of};
@@ -9,9 +8,8 @@ use crate::feeding::{Walked, kept, put_last, walk};
 use crate::numbers::stopped;
 use crate::opening::is_open;
 use crate::turns::{after_cr, data};
-use crate::writers::lacks_room;
+use crate::writers::{Ends, lacks_room};
 use standard::Context;
-use standard::table::builtin_names;
 
 // CharRefTokenizer's states, with data around them.
 #[derive(Clone, Copy)]
@@ -77,12 +75,8 @@ fn canonical(held: Held) -> Held
     requires { (held.count ≤ 32) × (spec.holds builtin held.state (take held.count held.store) ≡ true) }
     ensures { result ≡ spec.held_of (spec.st_of held) }
 {
-    let state = held.state;
-    let place = held.place;
-    let count = held.count;
-    let given = held.store;
-    let store = cleared(given, count);
-    match state {
+    let store = cleared(held.store, held.count);
+    match held.state {
         State::Data => data(),
         State::AfterCr => after_cr(),
         State::Numeric { base, value } => Held {
@@ -90,16 +84,10 @@ fn canonical(held: Held) -> Held
                 base,
                 value: stopped(value),
             },
-            place,
             store,
-            count,
+            ..held
         },
-        _ => Held {
-            state,
-            place,
-            store,
-            count,
-        },
+        _ => Held { store, ..held },
     }
 }
 
@@ -108,18 +96,11 @@ fn cleared_record(record: Stream) -> Stream
     requires { spec.is_open builtin «record» ≡ true }
     ensures { result ≡ spec.record_of «record».context (spec.at_of «record») }
 {
-    let context = record.context;
-    let given = record.held;
-    let held = canonical(given);
     let bytes = record.part;
-    let n = record.part_count;
-    let part = kept(&bytes, n);
     Stream {
-        context,
-        held,
-        part,
-        part_count: n,
-        taken: record.taken,
+        held: canonical(record.held),
+        part: kept(&bytes, record.part_count),
+        ..record
     }
 }
 
@@ -141,24 +122,23 @@ fn closed(context: Context, taken: u32) -> Stream
     }
 }
 
-// Why a chunk of so many bytes is refused, 8, 3, 4 or 5, and 0 where it is not. The end is refused as a chunk of no bytes is.
-fn refusal(table: &[u8], record: Stream, chunk: usize, text: usize, errors: usize) -> u32
-    requires { table.now ≡ table_of builtin }
+// Why a chunk of so many bytes is refused, 8, 3, 4 or 5, if it is. The end is refused as a chunk of no bytes is.
+fn refusal(record: Stream, chunk: usize, text: usize, errors: usize) -> Option<u32>
     ensures { result ≡ refusal_of builtin «record» chunk text errors }
 {
-    if !is_open(table, record) {
-        return 8;
+    if !is_open(record) {
+        return Some(8);
     }
     if 65536 < chunk {
-        return 3;
+        return Some(3);
     }
     if 16777216 < record.taken as usize + chunk {
-        return 4;
+        return Some(4);
     }
     if lacks_room(text, errors) {
-        return 5;
+        return Some(5);
     }
-    0
+    None
 }
 
 // Nothing changes.
@@ -179,51 +159,38 @@ fn refused(answer: u32, record: Stream) -> Fed
 fn closes(answer: u32) -> bool
     ensures { result ≡ spec.closes answer }
 {
-    if answer == 1 {
-        return true;
-    }
-    if answer == 2 {
-        return true;
-    }
-    answer == 7
+    matches!(answer, 1 | 2 | 7)
 }
 
 // What a walk comes to, where before bytes were taken before it.
 fn walked_to(context: Context, before: u32, walked: Walked) -> Fed
     requires { (before ≤ walked.«record».taken) × (walked.«record».part_count ≤ walked.«record».taken)
-        × (walked.text ≤ 16777216) × (walked.errors ≤ 16777216) }
+        × (walked.ends.text ≤ 16777216) × (walked.ends.errors ≤ 16777216) }
     ensures { result ≡ record {
       answer = walked.answer;
       taken = walked.«record».taken - before;
-      text = walked.text;
-      errors = walked.errors / 2;
+      text = walked.ends.text;
+      errors = walked.ends.errors / 2;
       place = if spec.closes walked.answer then walked.«record».taken - walked.«record».part_count else 0;
       «record» = if spec.closes walked.answer then spec.closed_by context walked.«record».taken else walked.«record»;
     } }
 {
     let record = walked.record;
-    let end = record.taken;
-    let taken = end - before;
-    let text = walked.text as u32;
-    let errors = (walked.errors / 2) as u32;
-    let answer = walked.answer;
-    if closes(answer) {
-        return Fed {
-            answer,
-            taken,
-            text,
-            errors,
-            place: end - record.part_count as u32,
-            record: closed(context, end),
-        };
-    }
-    Fed {
-        answer,
-        taken,
-        text,
-        errors,
+    let fed = Fed {
+        answer: walked.answer,
+        taken: record.taken - before,
+        text: walked.ends.text as u32,
+        errors: (walked.ends.errors / 2) as u32,
         place: 0,
         record,
+    };
+    if !closes(walked.answer) {
+        return fed;
+    }
+    Fed {
+        place: record.taken - record.part_count as u32,
+        record: closed(context, record.taken),
+        ..fed
     }
 }
 
@@ -246,14 +213,11 @@ impl Stream {
         ensures { spec.Feeds (spec.feed_of builtin self chunk.now (length text.old) (length errors.old))
             text.old errors.old result text.new errors.new }
     {
-        let table = builtin_names();
-        let answer = refusal(&table, self, chunk.len(), text.len(), errors.len());
-        if answer != 0 {
+        if let Some(answer) = refusal(self, chunk.len(), text.len(), errors.len()) {
             return refused(answer, self);
         }
-        let context = self.context;
-        let walked = walk(&table, cleared_record(self), chunk, text, errors);
-        walked_to(context, self.taken, walked)
+        let walked = walk(cleared_record(self), chunk, text, errors);
+        walked_to(self.context, self.taken, walked)
     }
 
     // The source ends here.
@@ -261,12 +225,9 @@ impl Stream {
         ensures { spec.Feeds (spec.end_of builtin self (length text.old) (length errors.old))
             text.old errors.old result text.new errors.new }
     {
-        let table = builtin_names();
-        let answer = refusal(&table, self, 0, text.len(), errors.len());
-        if answer != 0 {
+        if let Some(answer) = refusal(self, 0, text.len(), errors.len()) {
             return refused(answer, self);
         }
-        let context = self.context;
         let taken = self.taken;
         if 0 < self.part_count {
             return Fed {
@@ -275,19 +236,18 @@ impl Stream {
                 text: 0,
                 errors: 0,
                 place: taken - self.part_count as u32,
-                record: closed(context, taken),
+                record: closed(self.context, taken),
             };
         }
-        let given = self.held;
-        let held = canonical(given);
-        let last = put_last(&table, context, held, text, 0, errors, 0);
+        let held = canonical(self.held);
+        let ends = put_last(self.context, held, text, errors, Ends::NONE);
         Fed {
             answer: 0,
             taken: 0,
-            text: last.text as u32,
-            errors: (last.errors / 2) as u32,
+            text: ends.text as u32,
+            errors: (ends.errors / 2) as u32,
             place: 0,
-            record: closed(context, taken),
+            record: closed(self.context, taken),
         }
     }
 }

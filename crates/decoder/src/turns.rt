@@ -1,7 +1,7 @@
 // One character, as what is held meets it: the steps of CharRefTokenizer. Nothing is written here: a turn is a value.
 ghost use Rattle.std.specs.Prelude.{◌≡◌, ◌∷◌, [], ◌++◌, false, ◌≤◌, ◌<◌, ◌+◌, take, set};
 ghost use Rattle.standard.specs.Utf8.{encode};
-ghost use Rattle.standard.specs.Names.{table_of, longest, begins};
+ghost use Rattle.standard.specs.Names.{longest, begins, found_of};
 ghost use Rattle.standard.specs.NameList.{builtin};
 ghost use Rattle.decoder.specs.Machine as machine;
 ghost use Rattle.decoder.specs.Pieces.{none_of};
@@ -9,11 +9,12 @@ ghost use Rattle.decoder.specs.Stream.{st_of, held_of};
 ghost use Rattle.decoder.specs.Turns.{ascii_of, name_of, Fit, Stored, NameHeld, Follows, Releases, Turns};
 
 use crate::classes::{alphanumeric, character_code};
+use crate::names::{begins_name, longest_name};
 use crate::numbers::{add_digit, digit_of, finish_numeric};
 use crate::pieces::{Piece, named, named_by};
 use crate::stream::{Held, State};
 use standard::Context;
-use standard::names::{CharRef, begins_name, longest_name};
+use standard::names::{CharRef, Found};
 
 // What a character does: the piece that is released of what is held, which the store's bytes from the piece's size on follow; the character itself,
 // as a piece; and what is held then.
@@ -92,9 +93,9 @@ fn hold(held: Held, state: State, b: u8) -> Held
     store[count] = b;
     Held {
         state,
-        place: held.place,
         store,
         count: count + 1,
+        ..held
     }
 }
 
@@ -102,12 +103,9 @@ fn hold(held: Held, state: State, b: u8) -> Held
 fn numeric(held: Held, base: u32, value: u32) -> Held
     ensures { result ≡ record { state = State.Numeric base value; place = held.place; store = held.store; count = held.count } }
 {
-    let store = held.store;
     Held {
         state: State::Numeric { base, value },
-        place: held.place,
-        store,
-        count: held.count,
+        ..held
     }
 }
 
@@ -158,8 +156,8 @@ fn turn_after_cr(held: Held, p: u32, c: u32) -> Turn
 }
 
 // `do_begin`.
-fn turn_begin(table: &[u8], context: Context, held: Held, p: u32, c: u32) -> Turn
-    requires { (table.now ≡ table_of builtin) × Stored held (0x26 ∷ []) }
+fn turn_begin(context: Context, held: Held, p: u32, c: u32) -> Turn
+    requires { Stored held (0x26 ∷ []) }
     ensures { Turns held p result (machine.step_begin builtin context held.place p c (encode c)) }
 {
     let b = ascii(c);
@@ -167,7 +165,7 @@ fn turn_begin(table: &[u8], context: Context, held: Held, p: u32, c: u32) -> Tur
         return absorbed(1, hold(held, State::Octothorpe, b));
     }
     if alphanumeric(b) {
-        return turn_named(table, context, held, p, c);
+        return turn_named(context, held, p, c);
     }
     turn_data(Piece::one(1, 0x26, 0, 0), p, c)
 }
@@ -222,14 +220,14 @@ fn turn_numeric(held: Held, base: u32, value: u32, p: u32, c: u32) -> Turn
 }
 
 // What is held of a name is settled by a character that no name goes on with; rest is what is held after its `&`, and that character.
-fn settle(table: &[u8], context: Context, held: Held, rest: &[u8], p: u32, c: u32) -> Turn
-    requires { (table.now ≡ table_of builtin) × NameHeld held (name_of held) c × (rest.now ≡ name_of held ++ ascii_of c ∷ [])
+fn settle(context: Context, held: Held, rest: &[u8], p: u32, c: u32) -> Turn
+    requires { NameHeld held (name_of held) c × (rest.now ≡ name_of held ++ ascii_of c ∷ [])
         × (begins builtin rest.now ≡ false) }
     ensures { Turns held p result (machine.settle context held.place (longest builtin (name_of held)) (name_of held) p c (encode c)) }
 {
-    let found = longest_name(table, rest);
+    let found = longest_name(rest);
     let released = named_by(context, found, rest);
-    if found.len != 0 {
+    if found.is_some() {
         return turn_data(released, p, c);
     }
     if !alphanumeric(ascii(c)) {
@@ -242,9 +240,19 @@ fn settle(table: &[u8], context: Context, held: Held, rest: &[u8], p: u32, c: u3
     }
 }
 
+// What was found stands for.
+fn reference_of(found: Option<Found>) -> CharRef
+    ensures { result ≡ (found_of found).reference }
+{
+    match found {
+        Some(found) => found.reference,
+        None => CharRef::EMPTY,
+    }
+}
+
 // `do_named`.
-fn turn_named(table: &[u8], context: Context, held: Held, p: u32, c: u32) -> Turn
-    requires { (table.now ≡ table_of builtin) × NameHeld held (name_of held) c }
+fn turn_named(context: Context, held: Held, p: u32, c: u32) -> Turn
+    requires { NameHeld held (name_of held) c }
     ensures { Turns held p result (machine.step_named builtin context held.place (name_of held) p c (encode c)) }
 {
     let count = held.count;
@@ -252,16 +260,14 @@ fn turn_named(table: &[u8], context: Context, held: Held, p: u32, c: u32) -> Tur
     let next = hold(held, State::Named, b);
     let store = next.store;
     let rest = &store[1..count + 1];
-    if !begins_name(table, rest) {
-        return settle(table, context, held, rest, p, c);
+    if !begins_name(rest) {
+        return settle(context, held, rest, p, c);
     }
     if b == b';' {
-        let found = longest_name(table, rest);
-        let reference = found.reference;
         return Turn {
             released: Piece {
                 size: count,
-                reference,
+                reference: reference_of(longest_name(rest)),
                 first: 0,
                 second: 0,
             },
@@ -301,28 +307,27 @@ fn turn_bogus_name(held: Held, p: u32, c: u32) -> Turn
 }
 
 // `step`: a character c at place p.
-pub(crate) fn step(table: &[u8], context: Context, held: Held, p: u32, c: u32) -> Turn
-    requires { (table.now ≡ table_of builtin) × Fit held }
+pub(crate) fn step(context: Context, held: Held, p: u32, c: u32) -> Turn
+    requires { Fit held }
     ensures { Turns held p result (machine.step builtin context (st_of held) p c (encode c)) }
 {
     let state = held.state;
     let store = held.store;
     match state {
-        State::Data => turn_data(Piece::none(0), p, c),
+        State::Data | State::Closed => turn_data(Piece::none(0), p, c),
         State::AfterCr => turn_after_cr(held, p, c),
-        State::Begin => turn_begin(table, context, held, p, c),
+        State::Begin => turn_begin(context, held, p, c),
         State::Octothorpe => turn_octothorpe(held, p, c),
         State::HexBegin => turn_hex_begin(held, store[2], p, c),
         State::Numeric { base, value } => turn_numeric(held, base, value, p, c),
-        State::Named => turn_named(table, context, held, p, c),
+        State::Named => turn_named(context, held, p, c),
         State::BogusName => turn_bogus_name(held, p, c),
-        State::Closed => turn_data(Piece::none(0), p, c),
     }
 }
 
 // `end_of_file`: what is held, read as the last pieces.
-pub(crate) fn finish(table: &[u8], context: Context, held: Held) -> Piece
-    requires { (table.now ≡ table_of builtin) × Fit held }
+pub(crate) fn finish(context: Context, held: Held) -> Piece
+    requires { Fit held }
     ensures { Releases held result (machine.finish builtin context (st_of held)) }
 {
     let state = held.state;
@@ -330,13 +335,12 @@ pub(crate) fn finish(table: &[u8], context: Context, held: Held) -> Piece
     let count = held.count;
     match state {
         State::Begin => Piece::one(1, 0x26, 0, 0),
-        State::Octothorpe => Piece::one(1, 0x26, 1, 0),
-        State::HexBegin => Piece::one(1, 0x26, 1, 0),
-        State::Numeric { base: _, value } => {
+        State::Octothorpe | State::HexBegin => Piece::one(1, 0x26, 1, 0),
+        State::Numeric { value, .. } => {
             let meant = finish_numeric(value);
             Piece::one(count, meant.char, 2, meant.code)
         }
-        State::Named => named(table, context, &store[1..count]),
+        State::Named => named(context, &store[1..count]),
         _ => Piece::none(0),
     }
 }

@@ -5,12 +5,31 @@ ghost use Rattle.standard.specs.Utf8.{scalar, octets, encode};
 ghost use Rattle.standard.specs.Errors.{listed, placed, numbers};
 ghost use Rattle.standard.specs.Pieces.{char_ref_text};
 ghost use Rattle.standard.specs.Reading.{reading_at};
-ghost use Rattle.decoder.specs.Writing.{Wrote};
+ghost use Rattle.decoder.specs.Writing.{Writes};
 ghost use Rattle.decoder.specs.Pieces.{piece_of};
 ghost use Rattle.decoder.specs.Stream.{lacks_room};
 
 use crate::pieces::Piece;
 use standard::names::CharRef;
+
+// Where what was written ends: in the text room, and in the error room.
+#[derive(Clone, Copy)]
+pub(crate) struct Ends {
+    pub text: usize,
+    pub errors: usize,
+}
+
+impl Ends {
+    // Nothing is written yet.
+    pub(crate) const NONE: Ends = Ends { text: 0, errors: 0 };
+}
+
+// The place up to which was read, and where what was written ends.
+#[derive(Clone, Copy)]
+pub(crate) struct Reached {
+    pub at: usize,
+    pub ends: Ends,
+}
 
 // Whether so much free room is less than is asked for before a byte.
 pub(crate) fn lacks_room(text: usize, errors: usize) -> bool
@@ -121,38 +140,20 @@ pub(crate) fn put_codes(errors: &mut [u32], at: usize, first: u32, second: u32, 
     put_code(errors, next, second, place)
 }
 
-// The places after what was written: in the text room, and in the error room.
-#[derive(Clone, Copy)]
-pub(crate) struct Written {
-    pub text: usize,
-    pub errors: usize,
-}
-
-// The place up to which was read, and the places after what was written.
-#[derive(Clone, Copy)]
-pub(crate) struct Reached {
-    pub at: usize,
-    pub text: usize,
-    pub errors: usize,
-}
-
-// Writes a piece that stands at place: its text at w, its errors at e.
+// Writes a piece that stands at place.
 pub(crate) fn put_piece(
     text: &mut [u8],
-    w: usize,
     errors: &mut [u32],
-    e: usize,
+    ends: Ends,
     piece: Piece,
     place: u32,
-) -> Written
-    requires { (w + 8 ≤ length text.old) × (e + 4 ≤ length errors.old) }
-    ensures { Wrote (reading_at place (piece_of piece)) text.old w text.new result.text
-        errors.old e errors.new result.errors × (result.text ≤ w + 8) × (result.errors ≤ e + 4) }
+) -> Ends
+    requires { (ends.text + 8 ≤ length text.old) × (ends.errors + 4 ≤ length errors.old) }
+    ensures { Writes (reading_at place (piece_of piece)) ends text.old errors.old result text.new errors.new
+        × (result.text ≤ ends.text + 8) × (result.errors ≤ ends.errors + 4) }
 {
-    let reference = piece.reference;
-    let next = put_reference(text, w, reference);
-    Written {
-        text: next,
-        errors: put_codes(errors, e, piece.first, piece.second, place),
+    Ends {
+        text: put_reference(text, ends.text, piece.reference),
+        errors: put_codes(errors, ends.errors, piece.first, piece.second, place),
     }
 }

@@ -13,7 +13,8 @@ use lib.Seq.{sets}
 use Rattle.lists.proofs.Choice.{no_way}
 use Rattle.lists.proofs.Every.{All}
 use Rattle.lists.proofs.Puts.{take-written}
-use Rattle.lists.proofs.Layings.{Laying, laid-plainly}
+use Rattle.lists.specs.Layings.{Laying}
+use Rattle.lists.proofs.Layings.{laid-plainly}
 use Rattle.standard.specs.declared.Context.{Context}
 use Rattle.standard.specs.Answers.{done, context_end}
 use Rattle.standard.specs.Errors.{numbers}

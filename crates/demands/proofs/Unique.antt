@@ -50,6 +50,10 @@ use Rattle.standard.proofs.names.begins_name.Kinds as begins-name-kinds
 use Rattle.standard.proofs.names.begins_name.Reads as begins-name-reads
 use Rattle.standard.proofs.table.builtin_names.Kinds as builtin-names-kinds
 use Rattle.standard.proofs.table.builtin_names.Reads as builtin-names-reads
+use Rattle.standard.proofs.table.builtin_table.Kinds as builtin-table-kinds
+use Rattle.standard.proofs.table.builtin_table.Reads as builtin-table-reads
+use Rattle.standard.proofs.records.Records.of.Kinds as records-kinds
+use Rattle.standard.proofs.records.Records.of.Reads as records-reads
 
 -- An `ensures` of a function with n lifetimes, parameters ps and result r leaves one result only.
 abbrev pub Fixes : (n : ℕ) (ps : List (ParamKind n)) (r : ResultKind n) → Out n ps r → Type 0
@@ -71,6 +75,17 @@ begins-name κs a x y e f p q = only p q
 
 pub builtin_names : Fixes 0 builtin-names-kinds.ps builtin-names-kinds.r builtin-names-reads.Post
 builtin_names κs a x y e f p q = only p q
+
+-- What is handed back points at bytes, and these are settled.
+pub builtin_table : (κs : Lfts 1) (a : Dens κs builtin-table-kinds.ps) (x y : (res_t builtin-table-kinds.r κs).Denot)
+    (e f : AtExit (ended_of 1 builtin-table-kinds.ps builtin-table-kinds.r) κs) → builtin-table-reads.Post κs a x e
+    → builtin-table-reads.Post κs a y f → x.now ≡ y.now
+builtin_table κs a x y e f p q = only p q
+
+pub records : (κs : Lfts 1) (a : Dens κs records-kinds.ps) (x y : (res_t records-kinds.r κs).Denot)
+    (e f : AtExit (ended_of 1 records-kinds.ps records-kinds.r) κs) → records-reads.Post κs a x e → records-reads.Post κs a y f
+    → x.rest.now ≡ y.rest.now
+records κs a x y e f p q = only p q
 
 pub ascii-end : Fixes 1 ascii-end-kinds.ps ascii-end-kinds.r ascii-end-reads.Post
 ascii-end κs a x y e f p q = only p q

@@ -8,7 +8,7 @@ use mathlib.Core.Logic.{◌⊎◌}
 use native.Mathlib.Omega.{arith}
 use lib.ListN.{length}
 use lib.Seq.{sets}
-use Rattle.lists.proofs.Layings.{Laying}
+use Rattle.lists.specs.Layings.{Laying}
 use Rattle.standard.specs.declared.Context.{Context}
 use Rattle.standard.specs.Answers.{done, ill_formed, nul, too_long, context_end, room_asked}
 use Rattle.standard.specs.Errors.{numbers}

@@ -2,7 +2,7 @@
 use Rattle.std.specs.Prelude.{if◌then◌else◌}
 use Prim.Native.Nat.{ℕ, zero, suc, ◌+◌, ◌-◌, ◌≤◌, ◌<◌}
 use mathlib.Core.Path.{◌≡◌, refl, sym, ◌∙◌, ap, ap₂}
-use mathlib.Core.List.{List, [], ◌∷◌, ◌++◌}
+use mathlib.Core.List.{List, [], ◌∷◌, ◌++◌, append_assoc}
 use mathlib.Core.Bool.{Bool, true, false}
 use native.Mathlib.Omega.{arith}
 use lib.Dec.{eqb}
@@ -23,7 +23,7 @@ use Rattle.escaper.specs.declared.Mode.{Mode}
 use Rattle.escaper.specs.Escape.{written_for, escape_from, escape}
 use Rattle.escaper.specs.declared.specials.Special.{Special}
 use Rattle.runs.specs.Kinds.{quiet}
-use Rattle.escaper.specs.Walk.{quote_of, special_of, source_length, text_of}
+use Rattle.escaper.specs.Walk.{quote_of, special_of, source_length, text_of, Sound, Moves}
 use Rattle.escaper.proofs.Begins.{special_begins}
 use Rattle.escaper.proofs.Quiet.{quiet-character}
 
@@ -96,16 +96,6 @@ front_ends p (c ∷ s) =
     if_both (λ (u : List ℕ). length u < suc (length s) → p (get_or (c ∷ s) (length u) 0) ≡ false) (p c) _ _
     (λ t h. front_ends p s (omega arith)) (λ f h. f)
 
--- An input is read as far as `at`: the bytes from there on are well-formed.
-pub record Sound (s : List ℕ) (at : ℕ) : Type 0 where
-  pub there : at ≤ length s
-  pub well_formed : (stop_from (λ c. done) 0 at (drop at s)).answer ≡ done
-
--- From `at` to next u is written.
-pub record Moves (mode : Mode) (s : List ℕ) (at : ℕ) (u : List ℕ) (next : ℕ) : Type 0 where
-  pub sound : Sound s next
-  pub written : escape mode (drop at s) ≡ u ++ escape mode (drop next s)
-
 -- The byte at `at`, if there is one, is not quiet.
 abbrev pub Loud : Mode → List ℕ → ℕ → Type 0
 Loud mode s at = at < length s → quiet (quote_of mode) (get_or s at 0) ≡ false
@@ -170,3 +160,7 @@ pub special_passed : {mode : Mode} {s u : List ℕ} {at end size : ℕ} {x : Spe
     → Moves mode s end (text_of x (take (end + size - end) (drop end s))) (end + size) × (end < end + size)
 special_passed {mode} {s} {end = end} {size} {x} run there is n =
     special_moves mode s end (end + size) x run.0.sound there run.1 is (rw n refl)
+
+-- One move after another.
+pub moves_join : {mode : Mode} {s u v : List ℕ} {at mid next : ℕ} → Moves mode s at u mid → Moves mode s mid v next → Moves mode s at (u ++ v) next
+moves_join {u = u} {v} a b = record { sound = b.sound; written = a.written ∙ rw b.written (sym (append_assoc u v _)) }

@@ -11,6 +11,11 @@ use Rattle.escaper.specs.declared.Mode.{Mode}
 use Rattle.escaper.specs.declared.Mode.TheVariants.{Text, Attribute}
 use Rattle.escaper.specs.declared.Escaped.{Escaped}
 
+-- Document 01, 'Whole-slice calls', '0 (text) and 1 (attribute)': its number.
+abbrev pub number_of : Mode → ℕ
+number_of Text = 0
+number_of Attribute = 1
+
 -- Quotation marks are replaced too.
 abbrev pub in_attribute : Mode → Bool
 in_attribute Text = false

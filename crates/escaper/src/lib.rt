@@ -1,17 +1,34 @@
 // Escaping: text or an attribute value with its special characters replaced. `write_escaped` of serialize/mod.rs.
 #![tactic(auto)]
 
-ghost use Rattle.escaper.specs.Escape.{Escapes};
+ghost use Rattle.std.specs.Prelude.{◌≡◌, ◌<◌, MatchResult};
+ghost use Rattle.escaper.specs.Escape.{Escapes, number_of};
 
+mod parts;
 mod results;
 mod specials;
 mod stops;
 
 // What is escaped: text, or the value of an attribute in quotation marks.
-#[derive(Clone, Copy)]
+#[derive(Clone, Copy, PartialEq, Eq, Debug)]
 pub enum Mode {
     Text,
     Attribute,
+}
+
+// By its number, 0 or 1; another number is handed back.
+impl TryFrom<u32> for Mode {
+    type Error = u32;
+
+    ghost try_from_gives = { λ number r. MatchResult r (λ mode. number ≡ number_of mode) (λ other. 1 < number) };
+
+    fn try_from(number: u32) -> Result<Self, u32> {
+        match number {
+            0 => Ok(Mode::Text),
+            1 => Ok(Mode::Attribute),
+            other => Err(other),
+        }
+    }
 }
 
 // The answer, the length of the result (with 0 and 9), and the place of a fault.
@@ -33,12 +50,11 @@ pub fn escape(mode: Mode, input: &[u8], out: &mut [u8]) -> Escaped
             place: 0,
         };
     }
-    let fault = stops::find_stop(input);
-    if fault.answer == 1 {
+    if let Some(place) = stops::find_stop(input) {
         return Escaped {
             answer: 1,
             text: 0,
-            place: fault.place as u32,
+            place: place as u32,
         };
     }
     let text = results::escaped_length(mode, input);

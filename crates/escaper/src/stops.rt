@@ -1,37 +1,26 @@
 // Where an input stops: at its end, or at the first bytes that are no character.
-ghost use Rattle.std.specs.Prelude.{◌≡◌, ◌≤◌, length};
+ghost use Rattle.std.specs.Prelude.{◌≡◌, ◌≤◌, MatchOption, length};
+ghost use Rattle.standard.specs.Answers.{done, ill_formed};
 ghost use Rattle.escaper.specs.Escape.{escape_stop};
 
 use standard::characters::CharRead;
 
-// The answer, 0 or 1, and how many bytes stand before that place.
-#[derive(Clone, Copy)]
-pub(crate) struct Stopped {
-    pub(crate) answer: u32,
-    pub(crate) place: usize,
-}
-
-// Where s stops.
-pub(crate) fn find_stop(s: &[u8]) -> Stopped
-    ensures { (result.answer ≡ (escape_stop s.now).answer) × (result.place ≡ (escape_stop s.now).place)
-        × (result.place ≤ length s.now) }
+// How many bytes stand before the first that are no character.
+pub(crate) fn find_stop(s: &[u8]) -> Option<usize>
+    ensures { MatchOption result ((escape_stop s.now).answer ≡ done)
+        (λ place. ((escape_stop s.now).answer ≡ ill_formed) × (place ≡ (escape_stop s.now).place) × (place ≤ length s.now)) }
 {
+    // The place is counted: a step is a run or a character, and no iterator takes such.
     let mut at: usize = 0;
     while at < s.len() {
         if s[at] < 0x80 {
             at = runs::ascii_end(s, at);
         } else {
             let CharRead::Char { value: _, len } = standard::characters::read_char(&s[at..]) else {
-                return Stopped {
-                    answer: 1,
-                    place: at,
-                };
+                return Some(at);
             };
             at += len;
         }
     }
-    Stopped {
-        answer: 0,
-        place: at,
-    }
+    None
 }

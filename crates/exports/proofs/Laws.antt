@@ -9,15 +9,19 @@ use borrow.Author.Tests.{eq-eqb, ne_eqb}
 use Rattle.lists.specs.Bytes.{fours}
 use Rattle.lists.proofs.Puts.{sets-front}
 use Rattle.standard.specs.declared.Context.{Context}
+use Rattle.standard.specs.declared.Context.TheVariants.{Text, Attribute}
+use Rattle.standard.specs.Contexts.{number_of as context_number}
 use Rattle.standard.specs.NameList.{builtin}
 use Rattle.decoder.specs.declared.whole.Decoded.{Decoded}
 use Rattle.decoder.specs.Whole.{DecodesBytes}
 use Rattle.escaper.specs.declared.Mode.{Mode}
+use Rattle.escaper.specs.declared.Mode.TheVariants as modes
+use Rattle.escaper.specs.Escape.{number_of as mode_number}
 use Rattle.escaper.specs.declared.Escaped.{Escaped}
 use Rattle.escaper.specs.Escape.{Escapes}
 use Rattle.checker.specs.declared.checking.Checked.{Checked}
 use Rattle.checker.specs.Transcript.{checked_bytes}
-use Rattle.exports.specs.Exports.{Given, untouched, meant, asked, decodes, escapes, checks, Gives}
+use Rattle.exports.specs.Exports.{Given, untouched, meant, context_of, mode_of, asked, decodes, escapes, checks, Gives}
 
 -- A report of the right length is its four numbers and nothing else.
 pub report-whole : (report : List ℕ) (a b c d : ℕ) → length report ≡ 16 → sets report 0 (fours (a ∷ b ∷ c ∷ d ∷ [])) ≡ fours (a ∷ b ∷ c ∷ d ∷ [])
@@ -49,6 +53,17 @@ pub asked-other : {A : Type 0} (report : List ℕ) (text attribute : A) (number 
     → (number ≡ 1 → ⊥) → asked report (meant text attribute number) gives ≡ untouched
 unfolding asked meant
 asked-other report text attribute number gives h e f = rw (eq-eqb (length report) 16 h, ne_eqb number 0 e, ne_eqb number 1 f)
+
+-- A context, or a mode, that has the number is meant.
+pub asked_context : (report : List ℕ) (context : Context) (number : ℕ) (gives : Context → Given) → length report ≡ 16
+    → number ≡ context_number context → asked report (context_of number) gives ≡ gives context
+asked_context report Text number gives h e = asked-text report Text Attribute number gives h e
+asked_context report Attribute number gives h e = asked_attribute report Text Attribute number gives h e
+
+pub asked_mode : (report : List ℕ) (mode : Mode) (number : ℕ) (gives : Mode → Given) → length report ≡ 16
+    → number ≡ mode_number mode → asked report (mode_of number) gives ≡ gives mode
+asked_mode report modes.Text number gives h e = asked-text report modes.Text modes.Attribute number gives h e
+asked_mode report modes.Attribute number gives h e = asked_attribute report modes.Text modes.Attribute number gives h e
 
 -- What is given for equals.
 pub gives_as : {given same : Given} {text errors report text' errors' report' : List ℕ} {r : ℕ} → given ≡ same

@@ -13,35 +13,24 @@ use standard::Context;
 const REPORT_LENGTH: usize = 16;
 
 // The four numbers of a report, the first of which is the answer.
-fn put_report(report: &mut [u8], answer: u32, text: u32, errors: u32, place: u32) -> u32
-    requires { length report.old ≡ 16 }
-    ensures { (result ≡ answer) × (report.new ≡ sets report.old 0 (fours (answer ∷ text ∷ errors ∷ place ∷ []))) }
-{
-    let numbers = [answer, text, errors, place];
-    rooms::put_numbers(&numbers, report, 0);
-    answer
+#[derive(Clone, Copy)]
+struct Reported {
+    answer: u32,
+    text: u32,
+    errors: u32,
+    place: u32,
 }
 
-// Decodes in a context, and reports.
-fn decode_in(
-    context: Context,
-    source: &[u8],
-    text: &mut [u8],
-    errors: &mut [u8],
-    report: &mut [u8],
-) -> u32
-    requires { length report.old ≡ 16 }
-    ensures { Gives (decodes source.now text.old errors.old context)
-        text.old errors.old report.old result text.new errors.new report.new }
-{
-    let decoded = decoder::decode_bytes(context, source, text, errors);
-    put_report(
-        report,
-        decoded.answer,
-        decoded.text,
-        decoded.errors,
-        decoded.place,
-    )
+impl Reported {
+    // Written into its room, and answered.
+    fn put(self, room: &mut [u8]) -> u32
+        requires { length room.old ≡ 16 }
+        ensures answered { result ≡ self.answer }
+        ensures written { room.new ≡ sets room.old 0 (fours (self.answer ∷ self.text ∷ self.errors ∷ self.place ∷ [])) }
+    {
+        rooms::put_numbers(&[self.answer, self.text, self.errors, self.place], room, 0);
+        self.answer
+    }
 }
 
 // Decodes a whole source into `text`, and its errors as bytes into `errors`. The report: answer, text bytes, errors, place.
@@ -59,23 +48,17 @@ pub fn plankskein_decode(
     if report.len() != REPORT_LENGTH {
         return 5;
     }
-    if context == 0 {
-        return decode_in(Context::Text, source, text, errors, report);
+    let Ok(context) = Context::try_from(context) else {
+        return 5;
+    };
+    let decoded = decoder::decode_bytes(context, source, text, errors);
+    Reported {
+        answer: decoded.answer,
+        text: decoded.text,
+        errors: decoded.errors,
+        place: decoded.place,
     }
-    if context == 1 {
-        return decode_in(Context::Attribute, source, text, errors, report);
-    }
-    5
-}
-
-// Escapes in a mode, and reports.
-fn escape_in(mode: Mode, input: &[u8], out: &mut [u8], report: &mut [u8]) -> u32
-    requires { length report.old ≡ 16 }
-    ensures { Gives (escapes input.now out.old mode)
-        out.old [] report.old result out.new [] report.new }
-{
-    let escaped = escaper::escape(mode, input, out);
-    put_report(report, escaped.answer, escaped.text, 0, escaped.place)
+    .put(report)
 }
 
 // Escapes all of `input` into `out`. The report: answer, length of the result, 0, place.
@@ -86,36 +69,17 @@ pub fn plankskein_escape(mode: u32, input: &[u8], out: &mut [u8], report: &mut [
     if report.len() != REPORT_LENGTH {
         return 5;
     }
-    if mode == 0 {
-        return escape_in(Mode::Text, input, out, report);
+    let Ok(mode) = Mode::try_from(mode) else {
+        return 5;
+    };
+    let escaped = escaper::escape(mode, input, out);
+    Reported {
+        answer: escaped.answer,
+        text: escaped.text,
+        errors: 0,
+        place: escaped.place,
     }
-    if mode == 1 {
-        return escape_in(Mode::Attribute, input, out, report);
-    }
-    5
-}
-
-// Judges in a context, and reports.
-fn check_in(
-    context: Context,
-    source: &[u8],
-    rows: &[u8],
-    text: &[u8],
-    errors: &[u8],
-    report: &mut [u8],
-) -> u32
-    requires { length report.old ≡ 16 }
-    ensures { Gives (checks source.now rows.now text.now errors.now context)
-        [] [] report.old result [] [] report.new }
-{
-    let checked = checker::check_bytes(context, source, rows, text, errors);
-    put_report(
-        report,
-        checked.answer,
-        checked.verdict,
-        checked.row,
-        checked.place,
-    )
+    .put(report)
 }
 
 // Judges a transcript. The report: answer, verdict, row, place.
@@ -134,11 +98,15 @@ pub fn plankskein_check(
     if report.len() != REPORT_LENGTH {
         return 5;
     }
-    if context == 0 {
-        return check_in(Context::Text, source, rows, text, errors, report);
+    let Ok(context) = Context::try_from(context) else {
+        return 5;
+    };
+    let checked = checker::check_bytes(context, source, rows, text, errors);
+    Reported {
+        answer: checked.answer,
+        text: checked.verdict,
+        errors: checked.row,
+        place: checked.place,
     }
-    if context == 1 {
-        return check_in(Context::Attribute, source, rows, text, errors, report);
-    }
-    5
+    .put(report)
 }

@@ -1,49 +1,35 @@
 // Writes each built-in name as the lookup finds it: the name and its characters in hexadecimal, one line each.
 #![tactic(auto)]
 
-use standard::names::CharRef;
+use standard::names::{CharRef, longest_name};
+use standard::records::Records;
+use standard::table::builtin_names;
 use std::io;
 use std::io::Write;
 
-// A space and a character.
-fn write_char<W: Write>(output: &mut W, c: u32) -> io::Result<()> {
-    write!(output, " {c:x}")
-}
-
+// A name, and a space before each of its characters.
 fn write_line<W: Write>(output: &mut W, word: &[u8], reference: CharRef) -> io::Result<()> {
     output.write_all(word)?;
-    let chars = reference.chars;
-    if 0 < reference.num_chars {
-        write_char(output, chars[0])?;
+    for c in reference
+        .chars
+        .iter()
+        .take(usize::from(reference.num_chars))
+    {
+        write!(output, " {c:x}")?;
     }
-    if 1 < reference.num_chars {
-        write_char(output, chars[1])?;
-    }
-    output.write_all(b"\n")
+    writeln!(output)
 }
 
 // The names of a table, each looked up in it.
 fn write_names<W: Write>(output: &mut W, table: &[u8]) -> io::Result<()> {
-    let mut at: usize = 0;
-    while at < table.len() {
-        let n = table[at] as usize;
-        let key = at + 1;
-        if table.len() - key < n + 8 {
-            return Ok(());
-        }
-        let end = key + n;
-        let word = &table[key..end];
-        write_line(
-            output,
-            word,
-            standard::names::longest_name(table, word).reference,
-        )?;
-        at = end + 8;
+    for record in Records::of(table) {
+        let found = longest_name(table, record.word);
+        let reference = found.map_or(CharRef::EMPTY, |found| found.reference);
+        write_line(output, record.word, reference)?;
     }
     Ok(())
 }
 
 fn main(rt: HostRuntime) -> io::Result<()> {
-    let table = standard::table::builtin_names();
-    write_names(&mut io::writer(&rt), &table)
+    write_names(&mut io::writer(&rt), &builtin_names())
 }

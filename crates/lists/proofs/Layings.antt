@@ -5,12 +5,7 @@ use mathlib.Core.List.{List, [], ◌∷◌, ◌++◌}
 use native.Mathlib.Omega.{arith}
 use lib.ListN.{length}
 use Rattle.lists.specs.Bytes.{plainly, fours}
-
--- A way to lay numbers: none as none, joined ones one after the other, and width values for each.
-pub record Laying (width : ℕ) (lay : List ℕ → List ℕ) : Type 0 where
-  pub none : lay [] ≡ []
-  pub join : (a b : List ℕ) → lay (a ++ b) ≡ lay a ++ lay b
-  pub long : (a : List ℕ) → length (lay a) ≡ width * length a
+use Rattle.lists.specs.Layings.{Laying}
 
 pub laid-plainly : Laying 1 plainly
 laid-plainly = record { none = refl; join = λ a b. refl; long = λ a. omega arith }

@@ -8,7 +8,8 @@ use lib.Seq.{drop-set-lt, sets}
 use Rattle.lists.specs.Bytes.{word32, four_bytes, fours, words}
 use Rattle.lists.proofs.Every.{All}
 use Rattle.lists.proofs.Puts.{take-written}
-use Rattle.lists.proofs.Layings.{Laying, laid-plainly, laid-fours}
+use Rattle.lists.specs.Layings.{Laying}
+use Rattle.lists.proofs.Layings.{laid-plainly, laid-fours}
 use Rattle.lists.proofs.Ways.{Way, plain, in_bytes, width, laid, room, Says, Small}
 
 -- A number's digits to the base 256 say it.

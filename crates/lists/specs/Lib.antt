@@ -1,3 +1,4 @@
 pub mod Notation
 pub mod Bytes
 pub mod Rooms
+pub mod Layings

@@ -3,6 +3,6 @@ use Rattle.std.specs.Prelude.{ℕ, ◌+◌, ◌≡◌, List, length}
 use Rattle.std.proofs.lemmas.List.Edits.{sets}
 
 -- The values were written into old from at on: new is what the room then holds, and next the place after them.
-pub record Put (old : List ℕ) (at : ℕ) (values new : List ℕ) (next : ℕ) : Type 0 where
+pub record Put {A : Type 0} (old : List A) (at : ℕ) (values new : List A) (next : ℕ) : Type 0 where
   pub next_is : next ≡ at + length values
   pub new_is : new ≡ sets old at values

@@ -1,97 +1,66 @@
 // Calls of check, on words and on bytes: the parts of a transcript are lent, and the answer becomes a line.
-use crate::lines::{put_bytes, put_counts, put_number};
-use crate::numbers::{after, short_at};
+use crate::lent::Rooms;
+use crate::numbers::{short_at, split_within};
 use crate::sources::{make_numbers, make_source};
 use checker::{Checked, check, check_bytes};
 use standard::Context;
 use std::io;
 use std::io::Write;
 
-// Whether two calls answered the same.
-fn same(a: Checked, b: Checked) -> bool {
-    a.answer == b.answer && a.verdict == b.verdict && a.row == b.row && a.place == b.place
+// The rows and the errors of a transcript, four bytes a number. Its text stands in the room for text.
+#[derive(Clone, Copy)]
+struct Numbers<'a> {
+    rows: &'a [u8],
+    errors: &'a [u8],
 }
 
-// ANSWER VERDICT ROW PLACE
-fn put_checked<W: Write>(output: &mut W, checked: Checked) -> io::Result<()> {
-    let counts = [checked.answer, checked.verdict, checked.row];
-    put_counts(output, &counts)?;
-    put_number(output, checked.place as usize)
-}
+impl Numbers<'_> {
+    fn are_whole(&self) -> bool {
+        self.rows.len() % 4 == 0 && self.errors.len() % 4 == 0
+    }
 
-// The line of a call on words, which tells of a call on bytes that answered something else.
-fn put_both<W: Write>(output: &mut W, words: Checked, bytes: Checked) -> io::Result<()> {
-    put_checked(output, words)?;
-    if same(words, bytes) {
-        put_bytes(output, b"\n")
-    } else {
-        put_bytes(output, b" differs\n")
+    // Makes both kinds in one room, the rows first. Answers how many there are of each.
+    fn make(&self, room: &mut [u32]) -> (usize, usize) {
+        let rows = make_numbers(room, self.rows);
+        let errors = make_numbers(&mut room[rows..], self.errors);
+        (rows, errors)
+    }
+
+    fn check_words(&self, context: Context, source: &[u8], rooms: &mut Rooms) -> Checked {
+        let (rows, errors) = self.make(&mut *rooms.errors);
+        let (text, made) = rooms.contents();
+        let (rows, made) = split_within(made, rows);
+        let (errors, _) = split_within(made, errors);
+        check(context, source, rows, text, errors)
     }
 }
 
-// Check on words: both kinds of numbers are made in one room, the rows first.
-fn check_words(
-    context: Context,
-    source: &[u8],
-    rows: &[u8],
-    text: &[u8],
-    errors: &[u8],
-    numbers: &mut [u32],
-) -> Checked {
-    let middle = make_numbers(numbers, rows);
-    let count = make_numbers(&mut numbers[middle..], errors);
-    let end = middle + count;
-    check(
-        context,
-        source,
-        &numbers[0..middle],
-        text,
-        &numbers[middle..end],
-    )
-}
-
-// Check on words and on bytes, or on bytes alone where these are no whole numbers.
-fn check_both<W: Write>(
-    output: &mut W,
-    context: Context,
-    source: &[u8],
-    rows: &[u8],
-    text: &[u8],
-    errors: &[u8],
-    numbers: &mut [u32],
-) -> io::Result<()> {
-    let bytes = check_bytes(context, source, rows, text, errors);
-    if rows.len() % 4 == 0 && errors.len() % 4 == 0 {
-        let words = check_words(context, source, rows, text, errors, numbers);
-        put_both(output, words, bytes)
-    } else {
-        put_both(output, bytes, bytes)
-    }
-}
-
-// A call from bytes that say how many are of rows and errors; then these come, and then the text's. `x` fill up the room for text.
+// A call from bytes that say how many are of rows and errors; then these come, and then the text's. `x` fill up the room for text. The line is
+// ANSWER VERDICT ROW PLACE, of a call on bytes or, where these make whole numbers, on words, and tells where the two differ.
 pub(crate) fn replay_check<W: Write>(
     output: &mut W,
     context: Context,
     source: &[u8],
     bytes: &[u8],
-    text: &mut [u8],
-    numbers: &mut [u32],
+    rooms: &mut Rooms,
 ) -> io::Result<()> {
-    if bytes.len() < 4 {
-        put_bytes(output, b"no transcript\n")
+    let Some((lengths, parts)) = bytes.split_first_chunk::<4>() else {
+        return output.write_all(b"no transcript\n");
+    };
+    let (rows, parts) = split_within(parts, usize::from(short_at(lengths, 0)));
+    let (errors, own) = split_within(parts, usize::from(short_at(lengths, 2)));
+    make_source(&mut *rooms.text, own);
+    let numbers = Numbers { rows, errors };
+    let by_bytes = check_bytes(context, source, rows, &*rooms.text, errors);
+    let by_words = if numbers.are_whole() {
+        numbers.check_words(context, source, rooms)
     } else {
-        let rows = after(4, short_at(bytes, 0), bytes.len());
-        let errors = after(rows, short_at(bytes, 2), bytes.len());
-        make_source(text, &bytes[errors..]);
-        check_both(
-            output,
-            context,
-            source,
-            &bytes[4..rows],
-            text,
-            &bytes[rows..errors],
-            numbers,
-        )
-    }
+        by_bytes
+    };
+    let end = if by_words == by_bytes { "" } else { " differs" };
+    writeln!(
+        output,
+        "{} {} {} {}{end}",
+        by_words.answer, by_words.verdict, by_words.row, by_words.place,
+    )
 }

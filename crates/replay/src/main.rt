@@ -4,8 +4,8 @@
 #![tactic(auto)]
 
 mod checks;
+mod lent;
 mod lines;
-mod marks;
 mod numbers;
 mod records;
 mod reports;
@@ -13,132 +13,139 @@ mod rust;
 mod sources;
 mod stream;
 mod stream_calls;
-mod stream_records;
-mod stream_runs;
 mod streams;
 mod sums;
 mod whole;
 
 use input::read_full;
-use lines::put_bytes;
 use numbers::number_at;
-use records::{HEAD, read_head, replay_record};
+use records::{HEAD, Head, replay_record};
 use std::io;
 use std::io::{Read, Write};
 
 // How many lists are replayed at most.
 const MOST_LISTS: usize = 1000;
 
-// Replays each record of a list, up to one that is cut short. Answers where that or nothing more stands.
-fn replay<W: Write>(
+// What a list has.
+#[derive(Clone, Copy)]
+pub(crate) enum List {
+    Whole,
+    Stream,
+    Bench,
+    Sample,
+}
+
+impl List {
+    fn of(letter: u8) -> Option<List> {
+        match letter {
+            b'W' => Some(List::Whole),
+            b'S' => Some(List::Stream),
+            b'B' => Some(List::Bench),
+            b'R' => Some(List::Sample),
+            _ => None,
+        }
+    }
+}
+
+// Why no more lists are replayed.
+#[derive(Clone, Copy)]
+enum End {
+    NothingLeft,
+    HeadCutShort,
+    TooLong,
+    CutShort,
+    Most,
+}
+
+impl End {
+    // The line that says so.
+    fn line(self) -> &'static str {
+        match self {
+            End::NothingLeft => "",
+            End::HeadCutShort => "a list's head is cut short\n",
+            End::TooLong => "a list is too long\n",
+            End::CutShort => "a list is cut short\n",
+            End::Most => "more lists may follow\n",
+        }
+    }
+}
+
+// Replays each record of a list. One that is cut short ends it, with a line that says so.
+fn replay_records<W: Write>(
     output: &mut W,
-    letter: u8,
-    list: &[u8],
+    list: List,
+    records: &[u8],
     source: &mut [u8],
     text: &mut [u8],
     errors: &mut [u32],
-) -> io::Result<usize> {
-    let mut at: usize = 0;
-    while HEAD <= list.len() - at {
-        let from = at + HEAD;
-        let head = read_head(&list[at..from]);
-        let rest = head.rest;
-        if list.len() - from < rest {
+) -> io::Result<()> {
+    let mut left = records;
+    while let Some((head, rest)) = left.split_first_chunk::<HEAD>() {
+        let head = Head::read(head);
+        let Some((rest, next)) = rest.split_at_checked(head.rest) else {
             break;
-        }
-        let to = from + rest;
-        replay_record(output, letter, head, &list[from..to], source, text, errors)?;
-        at = to;
+        };
+        replay_record(output, list, head, rest, source, text, errors)?;
+        left = next;
     }
-    Ok(at)
+    if left.is_empty() {
+        Ok(())
+    } else {
+        output.write_all(b"a record is cut short\n")
+    }
 }
 
-// Replays a list, with rooms for its records.
-fn replay_list<W: Write>(output: &mut W, letter: u8, list: &[u8]) -> io::Result<usize> {
+// Replays a list, with rooms for its records: arrays and no `Vec`, as no program here has a heap.
+fn replay_list<W: Write>(output: &mut W, list: List, records: &[u8]) -> io::Result<()> {
     let mut source = [0u8; 66000];
     let mut text = [0u8; 400000];
     let mut errors = [0u32; 140000];
-    replay(output, letter, list, &mut source, &mut text, &mut errors)
+    replay_records(output, list, records, &mut source, &mut text, &mut errors)
 }
 
-// A list by its letter.
-fn replay_known<W: Write>(output: &mut W, letter: u8, list: &[u8]) -> io::Result<()> {
-    if letter == b'W' || letter == b'S' || letter == b'B' || letter == b'R' {
-        if replay_list(output, letter, list)? < list.len() {
-            put_bytes(output, b"a record is cut short\n")?;
-        }
-        Ok(())
-    } else {
-        put_bytes(output, b"another kind of list\n")
-    }
-}
-
-// Reads a list of some length into a buffer and replays it. Answers whether it was there: one that is longer than the buffer ends the program, as one
-// that is cut short does, with a line that says so.
-fn read_list<R: Read, W: Write>(
-    reader: &mut R,
-    output: &mut W,
-    letter: u8,
-    size: usize,
-    buffer: &mut [u8],
-) -> io::Result<bool> {
-    if buffer.len() < size {
-        put_bytes(output, b"a list is too long\n")?;
-        return Ok(false);
-    }
-    if read_full(reader, &mut buffer[0..size])? < size {
-        put_bytes(output, b"a list is cut short\n")?;
-        return Ok(false);
-    }
-    replay_known(output, letter, &buffer[0..size])?;
-    Ok(true)
-}
-
-// Reads the next head, and its list. Answers whether more may follow.
+// Reads the next head and its list into a buffer, and replays it. Answers why no more are replayed, if so.
 fn replay_next<R: Read, W: Write>(
     reader: &mut R,
     output: &mut W,
     buffer: &mut [u8],
-) -> io::Result<bool> {
+) -> io::Result<Option<End>> {
     let mut head = [0u8; 5];
-    let got = read_full(reader, &mut head)?;
-    if got == 5 {
-        return read_list(reader, output, head[0], number_at(&head, 1), buffer);
+    match read_full(reader, &mut head)? {
+        0 => return Ok(Some(End::NothingLeft)),
+        5 => {}
+        _ => return Ok(Some(End::HeadCutShort)),
     }
-    if 0 < got {
-        put_bytes(output, b"a list's head is cut short\n")?;
+    let size = number_at(&head, 1) as usize;
+    if buffer.len() < size {
+        return Ok(Some(End::TooLong));
     }
-    Ok(false)
+    if read_full(reader, &mut buffer[..size])? < size {
+        return Ok(Some(End::CutShort));
+    }
+    match List::of(head[0]) {
+        Some(list) => replay_list(output, list, &buffer[..size])?,
+        None => output.write_all(b"another kind of list\n")?,
+    }
+    Ok(None)
 }
 
-// Replays lists until nothing is left, or as many as are replayed at most. Answers whether more may follow.
+// Replays lists until nothing is left, or as many as are replayed at most.
 fn replay_lists<R: Read, W: Write>(
     reader: &mut R,
     output: &mut W,
     buffer: &mut [u8],
-) -> io::Result<bool> {
-    let mut count: usize = 0;
-    while count < MOST_LISTS {
-        if !replay_next(reader, output, buffer)? {
-            return Ok(false);
+) -> io::Result<End> {
+    for _ in 0..MOST_LISTS {
+        if let Some(end) = replay_next(reader, output, buffer)? {
+            return Ok(end);
         }
-        count += 1;
     }
-    Ok(true)
-}
-
-fn replay_all<R: Read, W: Write>(
-    reader: &mut R,
-    output: &mut W,
-    buffer: &mut [u8],
-) -> io::Result<()> {
-    if replay_lists(reader, output, buffer)? {
-        put_bytes(output, b"more lists may follow\n")?;
-    }
-    Ok(())
+    Ok(End::Most)
 }
 
 fn main(rt: HostRuntime) -> io::Result<()> {
     let mut buffer = [0u8; 1000000];
-    replay_all(&mut rt.stdin(), &mut io::writer(&rt), &mut buffer)
+    let mut output = io::writer(&rt);
+    let end = replay_lists(&mut rt.stdin(), &mut output, &mut buffer)?;
+    write!(output, "{}", end.line())
 }

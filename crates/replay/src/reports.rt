@@ -1,6 +1,6 @@
 // Inputs of the bench program: a line with the length of the report, and the report. tests/replay_bench.py has their form.
-use crate::lines::{put_byte, put_bytes, put_number};
-use crate::numbers::least;
+use crate::lent::Rooms;
+use crate::numbers::split_within;
 use reporting::report;
 use std::io;
 use std::io::Write;
@@ -9,11 +9,10 @@ use std::io::Write;
 pub(crate) fn replay_report<W: Write>(
     output: &mut W,
     input: &[u8],
-    text: &mut [u8],
-    errors: &mut [u32],
+    rooms: &mut Rooms,
 ) -> io::Result<()> {
-    let written = least(report(input, text, errors), text.len());
-    put_number(output, written)?;
-    put_byte(output, b'\n')?;
-    put_bytes(output, &text[0..written])
+    let written = report(input, &mut *rooms.text, &mut *rooms.errors);
+    let (text, _) = split_within(&*rooms.text, written);
+    writeln!(output, "{}", text.len())?;
+    output.write_all(text)
 }

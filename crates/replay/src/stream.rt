@@ -1,186 +1,133 @@
 // The stream: a record's runs, and the line that they make. tests/replay_stream.py has their form.
-ghost use Rattle.std.specs.Prelude.{◌≤◌, length};
+ghost use Rattle.std.specs.Iterator.{IsFinite};
 
-use crate::lines::{end_line, put_byte, put_bytes, put_half, put_next};
-use crate::marks::{BYTE, NUMBER, mark_bytes, mark_numbers};
+use crate::lent::Rooms;
+use crate::lines::end_line;
 use crate::sources::context_of;
-use crate::stream_calls::{BARE, CALLS, FULL, HIDDEN, SUM, TOUCHED, Tally, end, feed};
-use crate::stream_records::{STREAM_BYTES, read_stream};
-use crate::stream_runs::run;
-use crate::streams::put_stream;
-use crate::sums::mix;
+use crate::stream_calls::{Calls, Show, Tally};
+use crate::streams::{STREAM_BYTES, Shown, read_stream};
+use standard::Context;
 use std::io;
 use std::io::Write;
-use std::num::wrapping_add_u32;
+use std::iter::repeat_n;
 
-// The source in one way with the least rooms, not shown: its four digits. The tally of all ways takes it in.
-fn replay_cut<W: Write>(
+// The source in one way with the least rooms, not shown: its four digits, the high half of the sum. The tally of all ways takes it in.
+fn replay_way<W: Write, I: Iterator<Item = usize>>(
     output: &mut W,
-    kind: u8,
+    context: Context,
     source: &[u8],
-    count: usize,
-    first: usize,
-    other: usize,
+    lengths: I,
     all: &mut Tally,
-) -> io::Result<()> {
-    let mut text = [BYTE; 64];
-    let mut errors = [NUMBER; 8];
-    let mut tally = [HIDDEN, 0, 0, 0, 0, 0];
-    run(
-        output,
-        context_of(kind),
-        source,
-        &[],
-        count,
-        first,
-        other,
-        &mut text,
-        &mut errors,
-        &mut tally,
-    )?;
-    put_half(output, tally[SUM])?;
-    all[CALLS] = wrapping_add_u32(all[CALLS], tally[CALLS]);
-    all[SUM] = mix(all[SUM], tally[SUM]);
-    all[TOUCHED] = all[TOUCHED] | tally[TOUCHED];
+) -> io::Result<()>
+    requires can { I.can_next lengths }
+    requires ends { IsFinite (I.remaining lengths) }
+{
+    let mut text = [0; 64];
+    let mut errors = [0; 8];
+    let mut rooms = Rooms {
+        text: &mut text,
+        errors: &mut errors,
+    };
+    rooms.mark();
+    let mut calls = Calls {
+        output: &mut *output,
+        rooms: &mut rooms,
+        show: Show::Hidden,
+        tally: Tally::default(),
+    };
+    calls.run(context, source, lengths)?;
+    let tally = calls.tally;
+    write!(output, "{:04x}", tally.sum.0 / 65536)?;
+    all.take_in(tally);
     Ok(())
 }
 
-// The source cut at every place but its end.
-fn replay_inner<W: Write>(
-    output: &mut W,
-    kind: u8,
-    source: &[u8],
-    all: &mut Tally,
-) -> io::Result<()> {
-    let mut cut: usize = 0;
-    while cut < source.len() {
-        let next = cut + 1;
-        replay_cut(output, kind, source, 2, cut, source.len(), all)?;
-        cut = next;
-    }
-    Ok(())
-}
-
-// MARKS CALLS SUM, after a space. Answers whether a call touched what it had to leave (1).
-fn replay_cuts<W: Write>(output: &mut W, kind: u8, source: &[u8]) -> io::Result<u32> {
+// DIGITS CALLS SUM, after a space: the source cut at every place, and byte by byte.
+fn replay_ways<W: Write>(output: &mut W, context: Context, source: &[u8]) -> io::Result<Tally> {
     let size = source.len();
-    let mut all = [HIDDEN, 0, 0, 0, 0, 0];
-    put_byte(output, b' ')?;
-    replay_inner(output, kind, source, &mut all)?;
-    replay_cut(output, kind, source, 2, size, size, &mut all)?;
-    replay_cut(output, kind, source, size, 1, 1, &mut all)?;
-    put_next(output, all[CALLS])?;
-    put_next(output, all[SUM])?;
-    Ok(all[TOUCHED])
+    let mut all = Tally::default();
+    output.write_all(b" ")?;
+    for cut in 0..=size {
+        replay_way(output, context, source, [cut, size].into_iter(), &mut all)?;
+    }
+    replay_way(output, context, source, repeat_n(1, size), &mut all)?;
+    write!(output, " {} {}", all.calls, all.sum.0)?;
+    Ok(all)
 }
 
-// | CALL | CALL .. | STREAM, and the end of a line of which the rest is given.
+// | CALL | CALL .. | STREAM, and the end of the line: the source in chunks of given lengths, two bytes each. The tally is that of calls before.
 fn replay_given<W: Write>(
     output: &mut W,
-    kind: u8,
+    context: Context,
     source: &[u8],
     lengths: &[u8],
-    text: &mut [u8],
-    errors: &mut [u32],
-    touched: u32,
+    rooms: &mut Rooms,
+    tally: Tally,
 ) -> io::Result<()> {
-    let count = lengths.len() / 2;
-    let mut tally = [BARE, 0, 0, touched, 0, 0];
-    let stream = run(
-        output,
-        context_of(kind),
+    let mut calls = Calls {
+        output: &mut *output,
+        rooms: &mut *rooms,
+        show: Show::Bare,
+        tally,
+    };
+    let (lengths, _) = lengths.as_chunks::<2>();
+    let stream = calls.run(
+        context,
         source,
-        lengths,
-        count,
-        0,
-        0,
-        text,
-        errors,
-        &mut tally,
+        lengths
+            .iter()
+            .map(|length| usize::from(u16::from_le_bytes(*length))),
     )?;
-    put_bytes(output, b" | ")?;
-    put_stream(output, stream)?;
-    end_line(output, tally[TOUCHED] == 0)
+    let touched = calls.tally.touched;
+    write!(output, " | {}", Shown(stream))?;
+    end_line(output, touched)
 }
 
-// | CALL STREAM
-fn end_forged<W: Write>(
-    output: &mut W,
-    forged: &[u8],
-    text: &mut [u8],
-    errors: &mut [u32],
-    tally: &mut Tally,
-) -> io::Result<()>
-    requires { 61 ≤ length forged.now }
-{
-    end(output, read_stream(forged), text, errors, tally)?;
-    Ok(())
-}
-
-// | CALL STREAM | CALL STREAM
-fn feed_forged<W: Write>(
-    output: &mut W,
-    forged: &[u8],
-    chunk: &[u8],
-    text: &mut [u8],
-    errors: &mut [u32],
-    tally: &mut Tally,
-) -> io::Result<()>
-    requires { 61 ≤ length forged.now }
-{
-    let fed = feed(output, read_stream(forged), chunk, text, errors, tally)?;
-    end(output, fed, text, errors, tally)?;
-    Ok(())
-}
-
-// | CALL STREAM | CALL STREAM | CALL STREAM
+// | CALL STREAM | CALL STREAM | CALL STREAM: a stream as the record has it is ended, and fed a chunk and ended.
 fn replay_forged<W: Write>(
     output: &mut W,
     chunk: &[u8],
     forged: &[u8],
-    text: &mut [u8],
-    errors: &mut [u32],
+    rooms: &mut Rooms,
 ) -> io::Result<()> {
-    if forged.len() < STREAM_BYTES {
-        put_bytes(output, b" cut short\n")
-    } else {
-        let mut tally = [FULL, 0, 0, 0, 0, 0];
-        end_forged(output, forged, text, errors, &mut tally)?;
-        feed_forged(output, forged, chunk, text, errors, &mut tally)?;
-        end_line(output, tally[TOUCHED] == 0)
-    }
+    let Some(forged) = forged.first_chunk::<STREAM_BYTES>() else {
+        return output.write_all(b" cut short\n");
+    };
+    let stream = read_stream(forged);
+    let mut calls = Calls {
+        output: &mut *output,
+        rooms: &mut *rooms,
+        show: Show::Full,
+        tally: Tally::default(),
+    };
+    calls.end(stream)?;
+    let fed = calls.feed(stream, chunk)?;
+    calls.end(fed.record)?;
+    let touched = calls.tally.touched;
+    end_line(output, touched)
 }
 
 // A record by its kind; `before` has the lengths of chunks or a stream.
-fn replay_marked<W: Write>(
-    output: &mut W,
-    kind: u8,
-    source: &[u8],
-    before: &[u8],
-    text: &mut [u8],
-    errors: &mut [u32],
-) -> io::Result<()> {
-    match kind {
-        b'T' | b'A' => {
-            let touched = replay_cuts(output, kind, source)?;
-            replay_given(output, kind, source, before, text, errors, touched)
-        }
-        b't' | b'a' => replay_given(output, kind, source, before, text, errors, 0),
-        b'R' => replay_forged(output, source, before, text, errors),
-        _ => put_bytes(output, b" is another kind of record\n"),
-    }
-}
-
 pub(crate) fn replay_stream<W: Write>(
     output: &mut W,
     kind: u8,
     source: &[u8],
     before: &[u8],
-    text: &mut [u8],
-    errors: &mut [u32],
+    rooms: &mut Rooms,
 ) -> io::Result<()> {
-    put_byte(output, kind)?;
-    mark_bytes(text);
-    mark_numbers(errors);
-    replay_marked(output, kind, source, before, text, errors)
+    output.write_all(&[kind])?;
+    rooms.mark();
+    match kind {
+        b'T' | b'A' => {
+            let context = context_of(kind);
+            let tally = replay_ways(output, context, source)?;
+            replay_given(output, context, source, before, rooms, tally)
+        }
+        b't' | b'a' => {
+            let context = context_of(kind);
+            replay_given(output, context, source, before, rooms, Tally::default())
+        }
+        b'R' => replay_forged(output, source, before, rooms),
+        _ => output.write_all(b" is another kind of record\n"),
+    }
 }

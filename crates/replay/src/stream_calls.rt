@@ -1,149 +1,140 @@
 // Calls of a stream: marked rooms are lent, and what a call hands back goes into a tally and, where it is shown, into the line. Then the rooms are
 // marked again.
-ghost use Rattle.std.specs.Prelude.{◌≤◌, length};
+ghost use Rattle.std.specs.Iterator.{IsFinite};
 
-use crate::lines::{put_byte, put_bytes, put_counts, put_errors, put_text};
-use crate::marks::{bytes_marked, mark_bytes, mark_numbers, numbers_marked};
-use crate::numbers::least;
-use crate::streams::{put_stream, sum_stream};
-use crate::sums::{mix, mix_bytes, mix_numbers};
+use crate::lent::{Rooms, Written};
+use crate::lines::{Errors, Text};
+use crate::numbers::split_within;
+use crate::streams::{Shown, sum_stream};
+use crate::sums::Sum;
 use decoder::{Fed, Stream};
+use standard::Context;
 use std::io;
 use std::io::Write;
-use std::num::wrapping_add_u32;
 
-// What is kept of calls: how they are shown, how many there were, the sum of what they handed back, whether one touched what it had to leave (1), and
-// the last one's answer and bytes taken.
-pub type Tally = [u32; 6];
+// What is kept of calls: how many there were, the sum of what they handed back, and whether one touched what it had to leave.
+#[derive(Clone, Copy, Default)]
+pub(crate) struct Tally {
+    pub calls: u32,
+    pub sum: Sum,
+    pub touched: bool,
+}
 
-pub(crate) const SHOW: usize = 0;
-
-pub(crate) const CALLS: usize = 1;
-
-pub(crate) const SUM: usize = 2;
-
-pub(crate) const TOUCHED: usize = 3;
-
-pub(crate) const ANSWER: usize = 4;
-
-pub(crate) const TAKEN: usize = 5;
+impl Tally {
+    // Takes in more calls, as many as their own tally says.
+    pub(crate) fn take_in(&mut self, more: Tally) {
+        self.calls = self.calls.wrapping_add(more.calls);
+        self.sum = self.sum.number(more.sum.0);
+        self.touched |= more.touched;
+    }
+}
 
 // How calls are shown: not at all, without or with the stream after each.
-pub(crate) const HIDDEN: u32 = 0;
-
-pub(crate) const BARE: u32 = 1;
-
-pub(crate) const FULL: u32 = 2;
-
-// ` | `, and ANSWER TAKEN TEXT ERRORS PLACE HEX CODE@PLACE CODE@PLACE ..
-fn put_call<W: Write>(
-    output: &mut W,
-    counts: &[u32],
-    text: &[u8],
-    errors: &[u32],
-) -> io::Result<()> {
-    put_bytes(output, b" | ")?;
-    put_counts(output, counts)?;
-    put_text(output, text)?;
-    put_errors(output, errors, true)
+#[derive(Clone, Copy, PartialEq, Eq)]
+pub(crate) enum Show {
+    Hidden,
+    Bare,
+    Full,
 }
 
-// A stream after its call, where it is shown.
-fn put_after<W: Write>(output: &mut W, show: u32, stream: Stream) -> io::Result<()> {
-    if show == FULL {
-        put_byte(output, b' ')?;
-        put_stream(output, stream)?;
-    }
-    Ok(())
+// Where calls are shown, the rooms that they are lent, and what is kept of them.
+#[derive(Drop)]
+pub(crate) struct Calls<'o, 'c, 'r, W: Write> {
+    pub output: &'o mut W,
+    pub rooms: &'c mut Rooms<'r>,
+    pub show: Show,
+    pub tally: Tally,
 }
 
-// A call that wrote this text and these errors: shows it, and answers its sum.
-fn tell<W: Write>(
-    output: &mut W,
-    show: u32,
-    fed: Fed,
-    text: &[u8],
-    errors: &[u32],
-) -> io::Result<u32> {
-    let counts = [fed.answer, fed.taken, fed.text, fed.errors, fed.place];
-    if show != HIDDEN {
-        put_call(output, &counts, text, errors)?;
-        put_after(output, show, fed.record)?;
-    }
-    let record = sum_stream(fed.record);
-    let answer = mix_numbers(record, &counts);
-    Ok(mix_numbers(mix_bytes(answer, text), errors))
+// The sum of a call that wrote this.
+fn sum_call(fed: Fed, written: Written) -> Sum {
+    sum_stream(fed.record)
+        .numbers(&[fed.answer, fed.taken, fed.text, fed.errors, fed.place])
+        .bytes(written.text)
+        .numbers(written.errors)
 }
 
-// A call more, which wrote so much of its rooms.
-fn count<W: Write>(
-    output: &mut W,
-    fed: Fed,
-    text: &[u8],
-    errors: &[u32],
-    bytes: usize,
-    numbers: usize,
-    tally: &mut Tally,
-) -> io::Result<()>
-    requires bytes_in_bounds { bytes ≤ length text.now }
-    requires numbers_in_bounds { numbers ≤ length errors.now }
-{
-    let sum = tell(
+// ` | `, and ANSWER TAKEN TEXT ERRORS PLACE HEX CODE@PLACE CODE@PLACE .., and the stream where it is shown.
+fn put_call<W: Write>(output: &mut W, show: Show, fed: Fed, written: Written) -> io::Result<()> {
+    write!(
         output,
-        tally[SHOW],
-        fed,
-        &text[0..bytes],
-        &errors[0..numbers],
+        " | {} {} {} {} {} {}{}",
+        fed.answer,
+        fed.taken,
+        fed.text,
+        fed.errors,
+        fed.place,
+        Text(written.text),
+        Errors {
+            numbers: written.errors,
+            with_places: true,
+        },
     )?;
-    tally[CALLS] = wrapping_add_u32(tally[CALLS], 1);
-    tally[SUM] = mix(tally[SUM], sum);
-    tally[ANSWER] = fed.answer;
-    tally[TAKEN] = fed.taken;
-    if !bytes_marked(text, bytes) || !numbers_marked(errors, numbers) {
-        tally[TOUCHED] = 1;
+    if show == Show::Full {
+        write!(output, " {}", Shown(fed.record))?;
     }
     Ok(())
 }
 
-// A call more, whose rooms are given.
-fn called<W: Write>(
-    output: &mut W,
-    fed: Fed,
-    text: &mut [u8],
-    errors: &mut [u32],
-    tally: &mut Tally,
-) -> io::Result<()> {
-    let bytes = least(fed.text as usize, text.len());
-    let numbers = least(2 * fed.errors as usize, errors.len());
-    count(output, fed, text, errors, bytes, numbers, tally)?;
-    mark_bytes(text);
-    mark_numbers(errors);
-    Ok(())
-}
+impl<W: Write> Calls<'_, '_, '_, W> {
+    // A call more, which wrote what it says.
+    fn called(&mut self, fed: Fed) -> io::Result<Fed> {
+        let written = self.rooms.written(fed.text, fed.errors);
+        if self.show != Show::Hidden {
+            put_call(&mut *self.output, self.show, fed, written)?;
+        }
+        self.tally.take_in(Tally {
+            calls: 1,
+            sum: sum_call(fed, written),
+            touched: written.touched(),
+        });
+        self.rooms.mark();
+        Ok(fed)
+    }
 
-// A chunk is fed.
-pub(crate) fn feed<W: Write>(
-    output: &mut W,
-    stream: Stream,
-    chunk: &[u8],
-    text: &mut [u8],
-    errors: &mut [u32],
-    tally: &mut Tally,
-) -> io::Result<Stream> {
-    let fed = stream.feed(chunk, text, errors);
-    called(output, fed, text, errors, tally)?;
-    Ok(fed.record)
-}
+    // A chunk is fed.
+    pub(crate) fn feed(&mut self, stream: Stream, chunk: &[u8]) -> io::Result<Fed> {
+        let fed = self.rooms.feed(stream, chunk);
+        self.called(fed)
+    }
 
-// The stream is ended.
-pub(crate) fn end<W: Write>(
-    output: &mut W,
-    stream: Stream,
-    text: &mut [u8],
-    errors: &mut [u32],
-    tally: &mut Tally,
-) -> io::Result<Stream> {
-    let fed = stream.end(text, errors);
-    called(output, fed, text, errors, tally)?;
-    Ok(fed.record)
+    // The stream is ended.
+    pub(crate) fn end(&mut self, stream: Stream) -> io::Result<Stream> {
+        let fed = self.rooms.end(stream);
+        Ok(self.called(fed)?.record)
+    }
+
+    // A chunk is fed, and what an answer 6 leaves of it again. Each such call takes a byte, so there is one call more than bytes at most.
+    fn feed_all(&mut self, stream: Stream, chunk: &[u8]) -> io::Result<Stream> {
+        let mut rest = chunk;
+        let mut fed = self.feed(stream, rest)?;
+        for _ in chunk {
+            if fed.answer != 6 {
+                break;
+            }
+            (_, rest) = split_within(rest, fed.taken as usize);
+            fed = self.feed(fed.record, rest)?;
+        }
+        Ok(fed.record)
+    }
+
+    // A stream from its beginning to its end, with a source in chunks of these lengths.
+    pub(crate) fn run<I: Iterator<Item = usize>>(
+        &mut self,
+        context: Context,
+        source: &[u8],
+        lengths: I,
+    ) -> io::Result<Stream>
+        requires can { I.can_next lengths }
+        requires ends { IsFinite (I.remaining lengths) }
+    {
+        let mut stream = Stream::new(context);
+        let mut rest = source;
+        for length in lengths {
+            let (chunk, more) = split_within(rest, length);
+            stream = self.feed_all(stream, chunk)?;
+            rest = more;
+        }
+        self.end(stream)
+    }
 }

@@ -1,109 +1,123 @@
-// Streams: their letters, sums, and how a line shows them.
-use crate::lines::{put_byte, put_number, put_text};
-use crate::sums::{low, mix_numbers, mix_trimmed, trimmed};
-use decoder::{State, Stream};
+// Streams: how a record has them and a line shows them, and their sums.
+use crate::lines::Text;
+use crate::numbers::number_at;
+use crate::sources::context_of;
+use crate::sums::{Sum, low, trimmed};
+use decoder::{Held, State, Stream};
 use standard::Context;
-use std::io;
-use std::io::Write;
+use std::fmt;
 
-fn context_letter(context: Context) -> u8 {
-    match context {
-        Context::Text => b'T',
-        Context::Attribute => b'A',
+// How many bytes one has in a record.
+pub(crate) const STREAM_BYTES: usize = 61;
+
+// Another letter is a closed stream's.
+fn state_of(letter: u8, base: u32, value: u32) -> State {
+    match letter {
+        b'D' => State::Data,
+        b'R' => State::AfterCr,
+        b'B' => State::Begin,
+        b'O' => State::Octothorpe,
+        b'H' => State::HexBegin,
+        b'N' => State::Numeric { base, value },
+        b'L' => State::Named,
+        b'W' => State::BogusName,
+        _ => State::Closed,
     }
 }
 
-// A state's letter, and the base and the value of a number.
-#[derive(Clone, Copy)]
-struct Letter {
-    letter: u8,
-    base: u32,
-    value: u32,
-}
-
-fn plain(letter: u8) -> Letter {
-    Letter {
-        letter,
-        base: 0,
-        value: 0,
-    }
-}
-
-fn letter_of(state: State) -> Letter {
+// The other way: a state's letter, and the base and the value of a number.
+fn letter_of(state: State) -> (char, u32, u32) {
     match state {
-        State::Data => plain(b'D'),
-        State::AfterCr => plain(b'R'),
-        State::Begin => plain(b'B'),
-        State::Octothorpe => plain(b'O'),
-        State::HexBegin => plain(b'H'),
-        State::Numeric { base, value } => Letter {
-            letter: b'N',
-            base,
-            value,
+        State::Data => ('D', 0, 0),
+        State::AfterCr => ('R', 0, 0),
+        State::Begin => ('B', 0, 0),
+        State::Octothorpe => ('O', 0, 0),
+        State::HexBegin => ('H', 0, 0),
+        State::Numeric { base, value } => ('N', base, value),
+        State::Named => ('L', 0, 0),
+        State::BogusName => ('W', 0, 0),
+        State::Closed => ('C', 0, 0),
+    }
+}
+
+fn context_letter(context: Context) -> char {
+    match context {
+        Context::Text => 'T',
+        Context::Attribute => 'A',
+    }
+}
+
+pub(crate) fn read_stream(s: &[u8; STREAM_BYTES]) -> Stream {
+    let mut store = [0; 32];
+    store.copy_from_slice(&s[26..58]);
+    Stream {
+        context: context_of(s[0]),
+        held: Held {
+            state: state_of(s[1], number_at(s, 2), number_at(s, 6)),
+            place: number_at(s, 10),
+            store,
+            count: number_at(s, 14) as usize,
         },
-        State::Named => plain(b'L'),
-        State::BogusName => plain(b'W'),
-        State::Closed => plain(b'C'),
+        part: [s[58], s[59], s[60]],
+        part_count: number_at(s, 18) as usize,
+        taken: number_at(s, 22),
     }
 }
 
 // The sum of all fields of a stream.
-pub(crate) fn sum_stream(stream: Stream) -> u32 {
-    let context = stream.context;
+pub(crate) fn sum_stream(stream: Stream) -> Sum {
     let held = stream.held;
-    let state = held.state;
-    let store = held.store;
-    let part = stream.part;
-    let shown = letter_of(state);
+    let (letter, base, value) = letter_of(held.state);
     let numbers = [
-        context_letter(context) as u32,
-        shown.letter as u32,
-        shown.base,
-        shown.value,
+        context_letter(stream.context) as u32,
+        letter as u32,
+        base,
+        value,
         held.place,
         low(held.count),
         low(stream.part_count),
         stream.taken,
     ];
-    let total = mix_numbers(0, &numbers);
-    let with_store = mix_trimmed(total, &store);
-    mix_trimmed(with_store, &part)
+    Sum::default()
+        .numbers(&numbers)
+        .trimmed(&held.store)
+        .trimmed(&stream.part)
 }
 
-// LETTER, or LETTER BASE=VALUE.
-fn put_state<W: Write>(output: &mut W, state: Letter) -> io::Result<()> {
-    put_byte(output, state.letter)?;
-    if state.letter == b'N' {
-        put_number(output, state.base as usize)?;
-        put_byte(output, b'=')?;
-        put_number(output, state.value as usize)?;
+// A state as a line shows it: LETTER, or LETTER BASE=VALUE.
+#[derive(Clone, Copy)]
+struct ShownState(State);
+
+impl fmt::Display for ShownState {
+    fn fmt<W: fmt::Write>(&self, f: &mut fmt::Formatter<W>) -> fmt::Result {
+        let (letter, base, value) = letter_of(self.0);
+        if letter == 'N' {
+            write!(f, "{letter}{base}={value}")
+        } else {
+            write!(f, "{letter}")
+        }
     }
-    Ok(())
 }
 
-// All bytes but for the zeros at the end, as text, and their count: HEX/COUNT, and a space.
-fn put_trimmed<W: Write>(output: &mut W, bytes: &[u8], count: usize) -> io::Result<()> {
-    let shown = trimmed(bytes);
-    put_text(output, &bytes[0..shown])?;
-    put_byte(output, b'/')?;
-    put_number(output, count)?;
-    put_byte(output, b' ')
-}
+// A stream as a line shows it: CONTEXT STATE@PLACE STORE/COUNT PART/COUNT TAKEN, the store and the part without the zeros at the end.
+#[derive(Clone, Copy)]
+pub(crate) struct Shown(pub Stream);
 
-// CONTEXT STATE@PLACE STORE/COUNT PART/COUNT TAKEN
-pub(crate) fn put_stream<W: Write>(output: &mut W, stream: Stream) -> io::Result<()> {
-    let context = stream.context;
-    let held = stream.held;
-    let state = held.state;
-    let store = held.store;
-    let part = stream.part;
-    put_byte(output, context_letter(context))?;
-    put_byte(output, b' ')?;
-    put_state(output, letter_of(state))?;
-    put_byte(output, b'@')?;
-    put_number(output, held.place as usize)?;
-    put_byte(output, b' ')?;
-    put_trimmed(output, &store, held.count)?;
-    put_trimmed(output, &part, stream.part_count)?;
-    put_number(output, stream.taken as usize)
+impl fmt::Display for Shown {
+    fn fmt<W: fmt::Write>(&self, f: &mut fmt::Formatter<W>) -> fmt::Result {
+        let Shown(stream) = *self;
+        let held = stream.held;
+        write!(
+            f,
+            "{} {}@{} {}/{} {}/{} {}",
+            context_letter(stream.context),
+            ShownState(held.state),
+            held.place,
+            Text(trimmed(&held.store)),
+            held.count,
+            Text(trimmed(&stream.part)),
+            stream.part_count,
+            stream.taken,
+        )
+    }
 }

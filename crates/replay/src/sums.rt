@@ -1,59 +1,40 @@
 // Sums that depend on each number and on their order.
-ghost use Rattle.std.specs.Prelude.{◌≤◌, length};
 
-// A sum with one number more.
-pub(crate) fn mix(total: u32, number: u32) -> u32 {
-    ((total as u64 * 65599 + number as u64) % 4294967296) as u32
+#[derive(Clone, Copy, Default)]
+pub(crate) struct Sum(pub u32);
+
+impl Sum {
+    // With one number more.
+    pub(crate) fn number(self, number: u32) -> Sum {
+        Sum(self.0.wrapping_mul(65599).wrapping_add(number))
+    }
+
+    pub(crate) fn numbers(self, numbers: &[u32]) -> Sum {
+        numbers.iter().fold(self, |sum, number| sum.number(*number))
+    }
+
+    pub(crate) fn bytes(self, bytes: &[u8]) -> Sum {
+        bytes
+            .iter()
+            .fold(self, |sum, byte| sum.number(u32::from(*byte)))
+    }
+
+    // With all bytes but for the zeros at the end, and with the count of those.
+    pub(crate) fn trimmed(self, bytes: &[u8]) -> Sum {
+        let bytes = trimmed(bytes);
+        self.number(low(bytes.len())).bytes(bytes)
+    }
 }
 
 // The low half of a number.
 pub(crate) fn low(number: usize) -> u32 {
-    (number % 4294967296) as u32
+    (number % 0x1_0000_0000) as u32
 }
 
-// A sum with one byte more.
-fn mix_byte(total: u32, byte: u8) -> u32 {
-    mix(total, byte as u32)
-}
-
-// A sum with each byte.
-pub(crate) fn mix_bytes(total: u32, bytes: &[u8]) -> u32 {
-    let mut all = total;
-    let mut i: usize = 0;
-    while i < bytes.len() {
-        all = mix_byte(all, bytes[i]);
-        i += 1;
+// The bytes before the zeros at the end.
+pub(crate) fn trimmed(bytes: &[u8]) -> &[u8] {
+    match bytes.iter().rposition(|byte| *byte != 0) {
+        Some(last) => &bytes[..=last],
+        None => &[],
     }
-    all
-}
-
-// A sum with each number.
-pub(crate) fn mix_numbers(total: u32, numbers: &[u32]) -> u32 {
-    let mut all = total;
-    let mut i: usize = 0;
-    while i < numbers.len() {
-        all = mix(all, numbers[i]);
-        i += 1;
-    }
-    all
-}
-
-// How many bytes stand before the zeros at the end.
-pub(crate) fn trimmed(bytes: &[u8]) -> usize
-    ensures { result ≤ length bytes.now }
-{
-    let mut count = bytes.len();
-    while 0 < count {
-        if bytes[count - 1] != 0 {
-            break;
-        }
-        count -= 1;
-    }
-    count
-}
-
-// A sum with all bytes but for the zeros at the end, and with the count of those.
-pub(crate) fn mix_trimmed(total: u32, bytes: &[u8]) -> u32 {
-    let count = trimmed(bytes);
-    mix_bytes(mix(total, low(count)), &bytes[0..count])
 }

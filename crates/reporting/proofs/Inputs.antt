@@ -1,9 +1,9 @@
 -- What is written of an input, one law for each way through `report`.
 use Prim.Native.Nat.{ℕ, ◌≤◌, ◌<◌}
-use Prim.Native.Char.{code}
-use mathlib.Core.Path.{◌≡◌, refl}
+use mathlib.Core.Path.{◌≡◌, ◌∙◌, refl}
 use mathlib.Core.List.{List, []}
 use mathlib.Core.Bool.{true, false, and-false}
+use mathlib.Core.Logic.{◌⊎◌, ⊎_elim}
 use lib.Dec.{leb}
 use lib.ListN.{length, drop}
 use borrow.Author.Tests.{lt-ltb, le-ltb, le-leb, lt-leb}
@@ -27,7 +27,7 @@ use Rattle.reporting.specs.Report.{
   Reports,
 }
 use Rattle.reporting.specs.Lines.{Roomy, Fills}
-use Rattle.reporting.proofs.Starts.{Starts}
+use Rattle.reporting.proofs.Starts.{begins_with, stands_prefix}
 
 -- What is written of a source, be it too long or not.
 abbrev SourceFills : Context → (s out errors : List ℕ) (r : ℕ) (out' errors' : List ℕ) → Type 0
@@ -50,11 +50,10 @@ module _ {input out errors : List ℕ} where
   unfolding numbers
   nothing_written e = record { written = rw e (put_none out 0); numbers_of = rw e }
 
-  pub small_out : length out < report_room → Reports input out errors 0 out errors
-  small_out h = nothing_written (rw (lt-leb report_room (length out) h))
-
-  pub small_errors : length errors < numbers_room → Reports input out errors 0 out errors
-  small_errors h = nothing_written (rw (lt-leb numbers_room (length errors) h) (and-false (leb report_room (length out))))
+  pub small_rooms : (length out < report_room) ⊎ ((report_room ≤ length out) × (length errors < numbers_room)) → Reports input out errors 0 out errors
+  small_rooms =
+      ⊎_elim (λ h. nothing_written (rw (lt-leb report_room (length out) h)))
+      (λ h. nothing_written (rw (lt-leb numbers_room (length errors) h.1) (and-false (leb report_room (length out)))))
 
   module _ {r : ℕ} {out' errors' : List ℕ} (rooms : Roomy out errors) where
     -- Else what is called for.
@@ -67,19 +66,22 @@ module _ {input out errors : List ℕ} where
         record { written = rw e f.written; numbers_of = rw e f.numbers_of }
 
     -- After `T` and LF, a text.
-    pub report_text : Starts (code "T") input ≡ true → SourceFills Text (drop 2 input) out errors r out' errors'
-        → Reports input out errors r out' errors'
+    pub report_text : {source : List ℕ} → begins_with (bytes "T\n") input ≡ true → source ≡ drop 2 input
+        → SourceFills Text source out errors r out' errors' → Reports input out errors r out' errors'
     unfolding for_input computing_parts
-    report_text t f = report_written (rw t f)
+    report_text t e f = report_written (rw (stands_prefix (bytes "T\n") input ∙ t) (rw e at f))
 
     -- After `A` and LF, an attribute.
-    pub report_attribute : Starts (code "T") input ≡ false → Starts (code "A") input ≡ true
-        → SourceFills Attribute (drop 2 input) out errors r out' errors' → Reports input out errors r out' errors'
+    pub report_attribute : {source : List ℕ} → begins_with (bytes "T\n") input ≡ false → begins_with (bytes "A\n") input ≡ true
+        → source ≡ drop 2 input → SourceFills Attribute source out errors r out' errors' → Reports input out errors r out' errors'
     unfolding for_input computing_parts
-    report_attribute t a f = report_written (rw (t, a) f)
+    report_attribute t a e f =
+        report_written (rw (stands_prefix (bytes "T\n") input ∙ t, stands_prefix (bytes "A\n") input ∙ a) (rw e at f))
 
     -- Any other start.
-    pub report_bad : Starts (code "T") input ≡ false → Starts (code "A") input ≡ false → Put out 0 (line (bytes "bad context")) out' r
-        → errors' ≡ errors → Reports input out errors r out' errors'
+    pub report_bad : begins_with (bytes "T\n") input ≡ false → begins_with (bytes "A\n") input ≡ false
+        → Put out 0 (line (bytes "bad context")) out' r → errors' ≡ errors → Reports input out errors r out' errors'
     unfolding for_input computing_parts numbers
-    report_bad t a p e = report_written (rw (t, a) (record { written = p; numbers_of = e }))
+    report_bad t a p e =
+        report_written (rw (stands_prefix (bytes "T\n") input ∙ t, stands_prefix (bytes "A\n") input ∙ a)
+        (record { written = p; numbers_of = e }))

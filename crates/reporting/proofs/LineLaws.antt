@@ -1,18 +1,17 @@
 -- Laws of lines: how they fall into the parts that are written one after the other.
-use Prim.Native.Nat.{ℕ, suc, ◌+◌, ◌≤◌, ◌<◌}
+use Prim.Native.Nat.{ℕ, suc, ◌-◌, ◌≤◌}
 use Prim.Native.Char.{code}
 use mathlib.Core.Path.{◌≡◌, refl, ap}
 use mathlib.Core.List.{List, [], ◌∷◌, ◌++◌, append_assoc}
 use native.Mathlib.Omega.{arith}
-use native.Mathlib.Numerals.{add-one}
-use lib.ListN.{length, get_or, drop}
-use lib.Seq.{drop-cons}
+use lib.ListN.{length, get_or, take, drop}
+use lib.Seq.{take_all}
 use Rattle.standard.specs.Errors.{Error, numbers}
 use Rattle.reporting.specs.Report.{decimal, pair, line, error_lines}
 use Rattle.reporting.specs.Lines.{pair_lines}
 
--- A line of two numbers is the first with a space, and the second with LF.
-pub pair_line : (a b : ℕ) → line (pair a b) ≡ (decimal a ++ (code " " ∷ [])) ++ (decimal b ++ (code "\n" ∷ []))
+-- A line of two numbers is the first, a space, the second, and LF.
+pub pair_line : (a b : ℕ) → line (pair a b) ≡ decimal a ++ (code " " ∷ (decimal b ++ (code "\n" ∷ [])))
 pair_line a b = simp append_assoc
 
 -- A line of a word and more is the word, and a line of the rest.
@@ -20,12 +19,12 @@ pub word_line : (word rest : List ℕ) → line (word ++ rest) ≡ word ++ line 
 word_line word rest = append_assoc word rest (code "\n" ∷ [])
 
 -- Where two numbers are left, their line comes first.
-pub pairs_more : (ns : List ℕ) (i : ℕ) → i + 1 < length ns
-    → pair_lines (drop i ns) ≡ line (pair (get_or ns i 0) (get_or ns (i + 1) 0)) ++ pair_lines (drop (i + 2) ns)
+pub pairs_more : (ns : List ℕ) → 2 ≤ length ns
+    → pair_lines ns ≡ line (pair (get_or ns 0 0) (get_or ns 1 0)) ++ pair_lines (take (length ns - 2) (drop 2 ns))
 unfolding pair_lines
-pairs_more ns i h =
-    let two : suc (suc i) ≡ i + 2 = omega arith in
-    rw (add-one i, drop-cons ns i 0 (omega arith), drop-cons ns (suc i) 0 (omega arith), two)
+pairs_more [] h = absurd (omega arith)
+pairs_more (a ∷ []) h = absurd (omega arith)
+pairs_more (a ∷ b ∷ ns) h = rw (take_all (suc (suc (length ns)) - 2) ns (omega arith))
 
 -- Where at most one number is left, no line is.
 pub pairs_none : (ns : List ℕ) → length ns ≤ 1 → pair_lines ns ≡ []

@@ -1,8 +1,7 @@
 // What the bench program writes, as a function of what it reads.
 #![tactic(auto)]
 
-ghost use Rattle.std.specs.Prelude.{◌≡◌, ◌∷◌, [], ◌≤◌, length};
-ghost use Rattle.standard.specs.Names.{stands};
+ghost use Rattle.std.specs.Prelude.{[], ◌≤◌, length};
 ghost use Rattle.standard.specs.Utf8.{bytes};
 ghost use Rattle.reporting.specs.Report.{line, source_report, source_errors, for_source, Reports};
 ghost use Rattle.reporting.specs.Lines.{Roomy, Fills};
@@ -20,46 +19,26 @@ pub const REPORT_ROOM: usize = 32784;
 
 pub const NUMBERS_ROOM: usize = 8200;
 
-// The input begins with a letter and LF.
-fn starts_with(input: &[u8], letter: u8) -> bool
-    ensures { result ≡ stands (letter ∷ 10 ∷ []) input.now }
-{
-    if input.len() < 2 {
-        return false;
-    }
-    if input[0] != letter {
-        return false;
-    }
-    input[1] == b'\n'
-}
+// The answers that a source is read with, which are numbers as in document 01.
+const DONE: u32 = 0;
+
+const CONTEXT_END: u32 = 7;
 
 // Writes the report of a source that is not too long.
 fn write_source(context: Context, s: &[u8], out: &mut [u8], errors: &mut [u32]) -> usize
-    requires { (length s.now ≤ 4096) × Roomy out.old errors.old }
+    requires short { length s.now ≤ 4096 }
+    requires rooms { Roomy out.old errors.old }
     ensures { Fills (source_report context s.now) (source_errors context s.now)
         out.old errors.old result out.new errors.new }
 {
     let decoded = decoder::decode_whole(context, s, out, errors);
+    let text = decoded.text as usize;
     let count = 2 * decoded.errors as usize;
-    if decoded.answer == 0 {
-        return put_read(
-            out,
-            decoded.text as usize,
-            &errors[..count],
-            b"end ",
-            s.len() as u32,
-        );
+    match decoded.answer {
+        DONE => put_read(out, text, &errors[..count], b"end ", s.len() as u32),
+        CONTEXT_END => put_read(out, text, &errors[..count], b"left ", decoded.place),
+        _ => put_refused(out, 0, decoded.answer, decoded.place),
     }
-    if decoded.answer == 7 {
-        return put_read(
-            out,
-            decoded.text as usize,
-            &errors[..count],
-            b"left ",
-            decoded.place,
-        );
-    }
-    put_refused(out, 0, decoded.answer, decoded.place)
 }
 
 // Writes the report of a source that may be too long: so long that with its start it fills the room for an input.
@@ -78,17 +57,14 @@ fn report_source(context: Context, s: &[u8], out: &mut [u8], errors: &mut [u32])
 pub fn report(input: &[u8], out: &mut [u8], errors: &mut [u32]) -> usize
     ensures { Reports input.now out.old errors.old result out.new errors.new }
 {
-    if out.len() < REPORT_ROOM {
+    if out.len() < REPORT_ROOM || errors.len() < NUMBERS_ROOM {
         return 0;
     }
-    if errors.len() < NUMBERS_ROOM {
-        return 0;
+    if let Some(source) = input.strip_prefix(b"T\n") {
+        return report_source(Context::Text, source, out, errors);
     }
-    if starts_with(input, b'T') {
-        return report_source(Context::Text, &input[2..], out, errors);
-    }
-    if starts_with(input, b'A') {
-        return report_source(Context::Attribute, &input[2..], out, errors);
+    if let Some(source) = input.strip_prefix(b"A\n") {
+        return report_source(Context::Attribute, source, out, errors);
     }
     rooms::copy(b"bad context\n", out, 0)
 }

@@ -1,9 +1,7 @@
 -- Kinds of bytes, for the contracts of code that reads them in runs. No reading is defined by them.
-use Rattle.std.specs.Prelude.{ℕ, Bool, not, ◌||◌, ◌&&◌, ltb, eqb}
+use Rattle.std.specs.Prelude.{◌≡◌, ℕ, Bool, not, ◌||◌, ◌&&◌, ltb, eqb}
 use Prim.Native.Char.{code}
 use Rattle.lists.specs.Notation.{between}
-use Rattle.runs.specs.declared.Kind.{Kind}
-use Rattle.runs.specs.declared.Kind.TheVariants.{Ascii, Ordinary, Plain, Quiet}
 
 -- An ASCII byte.
 abbrev pub ascii : ℕ → Bool
@@ -25,9 +23,6 @@ plain end b = standing b && not (eqb b end)
 unfoldable pub quiet : (quote b : ℕ) → Bool
 quiet quote b = not (eqb b (code "&")) && not (eqb b (code "<")) && not (eqb b (code ">")) && not (eqb b 0xC2) && not (eqb b quote)
 
--- A byte of a kind.
-abbrev pub is_of : Kind → ℕ → Bool
-is_of Ascii = ascii
-is_of (Ordinary end) = ordinary end
-is_of (Plain end) = plain end
-is_of (Quiet quote) = quiet quote
+-- What calls of a function on bytes answer is what a test says.
+abbrev pub Tests : (ℕ → Bool → Type 0) → (ℕ → Bool) → Type 0
+Tests answers test = (b : ℕ) (t : Bool) → answers b t → t ≡ test b

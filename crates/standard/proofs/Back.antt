@@ -9,7 +9,7 @@ use Rattle.lists.specs.Notation.{between}
 use Rattle.lists.proofs.Choice.{between_true}
 use Rattle.standard.specs.declared.characters.CharRead.TheVariants.{Char}
 use Rattle.standard.specs.declared.characters.Lead.{Lead}
-use Rattle.standard.specs.declared.characters.Lead.TheVariants.{Bad, Good}
+use Rattle.std.specs.Prelude.{Option, Some, None}
 use Rattle.standard.specs.Utf8.{lead_of, tails, after_lead, read_char, scalar, octets, encode}
 use Rattle.standard.proofs.Utf8.{upper, Next, LeadSays, lead_says, if_char, is-char}
 use Rattle.standard.proofs.RoundTrip.{sixes, octets-sixes, size-scalar, encode-octets}
@@ -27,14 +27,15 @@ tails-back (suc n) low high bits len (b ∷ s) a m p q h =
     (omega arith, omega arith, omega arith, ap₂ ◌∷◌ (omega arith) v.3)
 
 -- A first byte and its tails are the bytes of a scalar value.
-after-back : (b : ℕ) (l : Lead) (s : List ℕ) (a m : ℕ) → LeadSays b l → after_lead l s ≡ Char a m → (octets a ≡ take m (b ∷ s)) × (scalar a ≡ true)
+after-back : (b : ℕ) (l : Option Lead) (s : List ℕ) (a m : ℕ) → LeadSays b l → after_lead l s ≡ Char a m
+    → (octets a ≡ take m (b ∷ s)) × (scalar a ≡ true)
 unfolding after_lead
-after-back b Bad s a m k h = absurd (is-char h)
-after-back b (Good n low high bits) s a m k h =
-    let w = tails-back n low high bits 1 s a m k.least k.most h in
+after-back b None s a m k h = absurd (is-char h)
+after-back b (Some l) s a m k h =
+    let w = tails-back l.need l.low l.high l.bits 1 s a m k.least k.most h in
     let z = k.only a w.1 w.2 in
-    let e : m ≡ suc n = omega arith in
-    (octets-sixes n a z ∙ rw (e, k.is, w.1, w.3), size-scalar n a z)
+    let e : m ≡ suc l.need = omega arith in
+    (octets-sixes l.need a z ∙ rw (e, k.is, w.1, w.3), size-scalar l.need a z)
 
 -- What is read is a scalar value, and its bytes are those that were read.
 pub read_back : (s : List ℕ) (a m : ℕ) → read_char s ≡ Char a m → (encode a ≡ take m s) × (scalar a ≡ true)

@@ -1,18 +1,20 @@
 -- The longest name that stands at the front of some bytes: one of the list that stands there, and none that stands there is longer.
 use Prim.Native.Nat.{ℕ, ◌≤◌, ◌<◌}
-use mathlib.Core.Path.{◌≡◌, refl}
+use mathlib.Core.Path.{◌≡◌, refl, sym, ◌∙◌, ap, subst}
 use mathlib.Core.Logic.{⊎_elim}
 use mathlib.Core.List.Memᴰ
 use mathlib.Core.List.{List, [], ◌∷◌, Memᴰ}
 use mathlib.Core.Bool as Bool
 use mathlib.Core.Bool.{true, ◌&&◌}
 use native.Mathlib.Omega.{arith}
-use lib.Dec.{ltb}
+use lib.Dec.{eqb, ltb}
 use lib.ListN.{length}
+use borrow.Author.Tests.{ne_eqb}
+use Rattle.std.specs.Prelude.{Option, Some, IfSome}
 use Rattle.lists.proofs.Choice.{facts, if_both, and_true}
 use Rattle.standard.specs.declared.names.Found.{Found}
-use Rattle.standard.specs.Names.{Name, stands, no_name, found_as, longer, longest_from, longest}
-use Rattle.standard.proofs.Narrow.{longest_cases}
+use Rattle.standard.specs.Names.{Name, stands, no_name, found_as, found_of, found_where, longer, longest_from, longest}
+use Rattle.standard.proofs.Narrow.{longest_cases, longest-fits}
 
 -- The longer one is not shorter than what was found, nor than the name where that stands there.
 longer-most : (found : Found) (n : Name) (s : List ℕ)
@@ -48,3 +50,23 @@ pub longest-some : (names : List Name) (s : List ℕ) → 0 < (longest names s).
 longest-some names s =
     longest_cases (λ (f : Found). 0 < f.len → (n : Name) × Memᴰ n names × (stands n.word s ≡ true) × (f ≡ found_as n)) s names
     (λ h. absurd (omega arith)) (λ n i some e h. (n, i, e, refl))
+
+-- Where no name was found, nothing was: the code's answer tells what is found.
+pub found-kept : (names : List Name) (s : List ℕ) → found_of (found_where (longest names s)) ≡ longest names s
+found-kept names s =
+    longest_cases (λ (f : Found). found_of (found_where f) ≡ f) s names refl
+    (λ n i some e. rw (ne_eqb (length n.word) 0 (λ z. omega (arith, z, some))) refl)
+
+-- A name that is found has a byte, and as many bytes at most as it is found in.
+pub found-some : (f : Found) (m : ℕ) → f.len ≤ m → IfSome (found_where f) (λ g. (1 ≤ g.len) × (g.len ≤ m))
+found-some f m h =
+    if_both (λ (o : Option Found). IfSome o (λ g. (1 ≤ g.len) × (g.len ≤ m))) (eqb f.len 0) _ _ (λ t. tt) (λ t. (omega facts, h))
+
+-- A name that the code gives is the longest one, and has a byte.
+pub found-so : (names : List Name) (s : List ℕ) {o : Option Found} {f : Found} → o ≡ found_where (longest names s) → o ≡ Some f
+    → (f ≡ longest names s) × (1 ≤ f.len)
+found-so names s is some = (
+  ap found_of (sym some ∙ is) ∙ found-kept names s,
+  (subst (λ (o : Option Found). IfSome o (λ g. (1 ≤ g.len) × (g.len ≤ length s))) (sym is ∙ some)
+      (found-some (longest names s) (length s) (longest-fits names s).0)).0,
+)

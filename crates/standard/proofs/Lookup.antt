@@ -1,90 +1,76 @@
 -- Laws of names and of tables of names.
-use Prim.Native.Nat.{ℕ, suc, ◌+◌, ◌-◌, ◌≤◌, ◌<◌}
-use mathlib.Core.Path.{◌≡◌, refl, ap}
+use Rattle.std.specs.Prelude.{Option, Some, None, IfSome}
+use lib.Pointwise.{pointwise}
+use Prim.Native.Nat.{ℕ, ◌+◌, ◌≤◌, ◌<◌}
+use mathlib.Core.Path.{◌≡◌, refl, ◌∙◌, ap}
 use mathlib.Core.List.{List, [], ◌∷◌}
-use mathlib.Core.Bool.{true, false, and-false}
+use mathlib.Core.Bool.{Bool, true, false, ◌&&◌, and-false}
 use native.Mathlib.Omega.{arith}
-use native.Mathlib.Numerals.{add-one}
-use native.Mathlib.Nat.{add_assoc}
-use lib.Dec.{ltb}
-use lib.ListN.{length, get_or, take, drop, length-take, length-drop, drop_of_length-le}
-use lib.Seq.{drop-cons, drop-drop, get_or-drop}
-use borrow.Author.Tests.{lt-ltb, le-ltb, le-leb, lt-leb, eq-eqb, ne_eqb}
+use lib.Dec.{eqb, ltb}
+use lib.ListN.{length, get_or, take, drop}
+use lib.Seq.{get_or-drop, get_or-take, drop-drop}
+use borrow.Author.Tests.{lt-ltb, le-ltb, le-leb, lt-leb, ne_eqb}
 use Rattle.lists.specs.Bytes.{word32}
 use Rattle.standard.proofs.Skips.{records_unfold}
 use Rattle.standard.specs.declared.names.Found.{Found}
-use Rattle.standard.specs.Names.{Name, stands, char_ref, longer, longest_from, begins, record_at, records_from, records}
+use Rattle.standard.specs.Names.{Name, name, stands, longer, found_as, found_of, found_where, longest_from, begins, records_from, records}
 
--- A word and what it should stand at the front of, both from i on: the word is used up, the bytes are, they differ, they agree.
-module _ (w s : List ℕ) (i : ℕ) where
-  pub stands_end : length w ≤ i → stands (drop i w) (drop i s) ≡ true
-  unfolding stands
-  stands_end h = rw (drop_of_length-le w h)
+-- A word stands at the front of some bytes where it is as many of them.
+pub front_stands : (w s : List ℕ) → pointwise eqb w (take (length w) s) ≡ stands w s
+unfolding stands
+front_stands [] s = refl
+front_stands (a ∷ w) [] = refl
+front_stands (a ∷ w) (b ∷ s) = ap (λ (rest : Bool). eqb a b && rest) (front_stands w s)
 
-  module _ (h : i < length w) where
-    pub stands_short : length s ≤ i → stands (drop i w) (drop i s) ≡ false
-    unfolding stands
-    stands_short k = rw (drop-cons w i 0 h, drop_of_length-le s k)
+-- It doesn't where they are fewer.
+pub stands_short : (w s : List ℕ) → length s < length w → stands w s ≡ false
+unfolding stands
+stands_short [] s h = absurd (omega arith)
+stands_short (a ∷ w) [] h = refl
+stands_short (a ∷ w) (b ∷ s) h = rw (stands_short w s (omega arith)) (and-false (eqb a b))
 
-    pub stands_other : i < length s → (get_or w i 0 ≡ get_or s i 0 → ⊥) → stands (drop i w) (drop i s) ≡ false
-    unfolding stands
-    stands_other k e = rw (drop-cons w i 0 h, drop-cons s i 0 k, ne_eqb (get_or w i 0) (get_or s i 0) e)
-
-    pub stands_same : i < length s → get_or w i 0 ≡ get_or s i 0 → stands (drop i w) (drop i s) ≡ stands (drop (i + 1) w) (drop (i + 1) s)
-    unfolding stands
-    stands_same k e = rw (add-one i, drop-cons w i 0 h, drop-cons s i 0 k, eq-eqb (get_or w i 0) (get_or s i 0) e)
-
--- The part of a table that a name of n bytes from i on is.
-pub part-is : (t : List ℕ) (i n : ℕ) → take (i + n - i) (drop i t) ≡ take n (drop i t)
-part-is t i n = ap (λ (k : ℕ). take k (drop i t)) (let e : i + n - i ≡ n = omega arith in e)
-
-part_length : (t : List ℕ) (i n : ℕ) → i + n ≤ length t → length (take n (drop i t)) ≡ n
-part_length t i n h = simp (length-take, length-drop) (omega arith)
-
--- The longer of what was found and a name of the table: it is no longer, it stands there, it doesn't.
-module _ (f : Found) (t s : List ℕ) (i n : ℕ) (h : i + n ≤ length t) where
-  pub longer_not : n ≤ f.len → longer f (record_at t i n) s ≡ f
+-- The longer of what was found and another name: it is no longer, it stands there, it doesn't.
+module _ (f : Found) (n : Name) (s : List ℕ) where
+  pub longer_not : length n.word ≤ f.len → longer f n s ≡ f
   unfolding longer
-  longer_not k = rw (part_length t i n h, le-ltb f.len n k)
+  longer_not k = rw (le-ltb f.len (length n.word) k)
 
-  pub longer_hit : f.len < n → stands (take n (drop i t)) s ≡ true
-      → longer f (record_at t i n) s ≡ record { len = n; reference = char_ref (word32 t (i + n)) (word32 t (i + n + 4)) }
+  pub longer_hit : f.len < length n.word → stands n.word s ≡ true → longer f n s ≡ found_as n
   unfolding longer
-  longer_hit k e = rw (part_length t i n h, lt-ltb f.len n k, e)
+  longer_hit k e = rw (lt-ltb f.len (length n.word) k, e)
 
-  pub longer_miss : stands (take n (drop i t)) s ≡ false → longer f (record_at t i n) s ≡ f
+  pub longer_miss : stands n.word s ≡ false → longer f n s ≡ f
   unfolding longer
-  longer_miss e = rw (e, and-false (ltb f.len (length (take n (drop i t)))))
+  longer_miss e = rw (e, and-false (ltb f.len (length n.word)))
 
-word32-drop : (t : List ℕ) (p i : ℕ) → word32 (drop p t) i ≡ word32 t (p + i)
-word32-drop t p i = simp (get_or-drop, add_assoc)
+-- The records of a table: there are no bytes, too few for a record, or a record and what follows it.
+pub records_none : (t : List ℕ) → length t ≡ 0 → records t ≡ []
+unfolding records_from
+records_none [] h = refl
+records_none (n ∷ t) h = absurd (omega arith)
 
--- A record without its length byte, read from where it begins.
-record_drop : (t : List ℕ) (p n : ℕ) → record_at (drop p t) 0 n ≡ record_at t p n
-record_drop t p n =
-    let e : p + (0 + n) ≡ p + n = omega arith in
-    let f : p + (0 + n + 4) ≡ p + n + 4 = omega arith in
-    rw (word32-drop t p (0 + n), word32-drop t p (0 + n + 4), e, f)
+module _ (n : ℕ) (t : List ℕ) where
+  pub records_cut : length t < n + 8 → records (n ∷ t) ≡ []
+  records_cut h = rw (records_unfold n t, lt-leb (n + 8) (length t) h)
 
--- The records of a table from at on: there are no more bytes, too few for a record, or a record and what follows it.
-module _ (t : List ℕ) (at : ℕ) where
-  pub records_end : length t ≤ at → records (drop at t) ≡ []
-  unfolding records_from
-  records_end h = rw (drop_of_length-le t h)
+  pub records_more : n + 8 ≤ length t
+      → records (n ∷ t) ≡ name (take n t) (word32 (take 8 (drop n t)) 0) (word32 (take 8 (drop n t)) 4) ∷ records (drop 8 (drop n t))
+  records_more h =
+      let at : (i m : ℕ) → i < 8 → n + i ≡ m → get_or (take 8 (drop n t)) i 0 ≡ get_or t m 0
+      = λ i m l e. get_or-take 8 (drop n t) i 0 l ∙ get_or-drop n t i 0 ∙ ap (λ (k : ℕ). get_or t k 0) e in
+      let p : ℕ = 0 + n in
+      let q : ℕ = 0 + n + 4 in
+      rw (records_unfold n t, le-leb (n + 8) (length t) h, drop-drop 8 n t)
+      (rw (at 0 p (omega arith) (omega arith), at 1 (p + 1) (omega arith) (omega arith), at 2 (p + 2) (omega arith) (omega arith)) (
+      rw (at 3 (p + 3) (omega arith) (omega arith), at 4 q (omega arith) (omega arith), at 5 (q + 1) (omega arith) (omega arith)) (
+      rw (at 6 (q + 2) (omega arith) (omega arith), at 7 (q + 3) (omega arith) (omega arith)) refl
+      )
+      ))
 
-  pub records_cut : at < length t → length t - (at + 1) < get_or t at 0 + 8 → records (drop at t) ≡ []
-  records_cut h k =
-      let l : length (drop (suc at) t) < get_or t at 0 + 8 = simp length-drop (omega arith) in
-      rw (drop-cons t at 0 h, records_unfold (get_or t at 0) (drop (suc at) t), lt-leb (get_or t at 0 + 8) (length (drop (suc at) t)) l)
-
-  pub records_more : at < length t → get_or t at 0 + 8 ≤ length t - (at + 1)
-      → records (drop at t) ≡ record_at t (at + 1) (get_or t at 0) ∷ records (drop (at + 1 + get_or t at 0 + 8) t)
-  records_more h k =
-      let n : ℕ = get_or t at 0 in
-      let l : n + 8 ≤ length (drop (suc at) t) = simp length-drop (omega arith) in
-      let e : suc at + (n + 8) ≡ at + 1 + n + 8 = omega arith in
-      rw (drop-cons t at 0 h, records_unfold n (drop (suc at) t), le-leb (n + 8) (length (drop (suc at) t)) l)
-      (rw (drop-drop (n + 8) (suc at) t, e, record_drop t (suc at) n, add-one at))
+-- What was found, where that is a name, is what was found, if no name was found of no bytes.
+pub found_back : (o : Option Found) → IfSome o (λ f. 0 < f.len) → o ≡ found_where (found_of o)
+found_back None h = refl
+found_back (Some f) h = rw (ne_eqb f.len 0 (λ z. omega (arith, z, h))) refl
 
 pub longest-end : (f : Found) (s : List ℕ) → longest_from f [] s ≡ f
 unfolding longest_from

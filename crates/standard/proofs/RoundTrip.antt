@@ -12,6 +12,7 @@ use borrow.Author.Tests.{lt-ltb, le-ltb, eq-eqb, ne_eqb}
 use Rattle.lists.specs.Notation.{between}
 use Rattle.lists.proofs.Choice.{facts, if_both, or_true, below?, inside-between, between_true}
 use Rattle.standard.specs.declared.characters.CharRead.TheVariants.{Char}
+use Rattle.std.specs.Prelude.{Option}
 use Rattle.standard.specs.declared.characters.Lead.{Lead}
 use Rattle.standard.specs.Utf8.{lead_of, tails, after_lead, read_char, scalar, octets, encode, written}
 use Rattle.standard.proofs.Utf8.{mark, upper, Next, Size}
@@ -87,7 +88,7 @@ tails-sixes (suc n) low high bits len c s h =
     any (suc k) = omega arith
 
 -- After a first byte, groups of six bits make the whole character.
-abbrev Reads : ℕ → ℕ → List ℕ → Lead → Type 0
+abbrev Reads : ℕ → ℕ → List ℕ → Option Lead → Type 0
 Reads n c s l = after_lead l (sixes n c ++ s) ≡ Char c (1 + n)
 
 -- They do so after the first byte of a scalar value.

@@ -10,7 +10,7 @@ use Rattle.lists.proofs.Choice.{test?, inside-between}
 use Rattle.standard.specs.declared.characters.CharRead.{CharRead}
 use Rattle.standard.specs.declared.characters.CharRead.TheVariants.{Char, Incomplete, Illformed}
 use Rattle.standard.specs.declared.characters.Lead.{Lead}
-use Rattle.standard.specs.declared.characters.Lead.TheVariants.{Bad, Good}
+use Rattle.std.specs.Prelude.{Option, Some, None}
 use Rattle.standard.specs.Utf8.{lead_of, tails, after_lead, read_char}
 use Rattle.standard.proofs.Utf8.{LeadSays, lead_says, is-char, Settled, read-append, incomplete_length, illformed_length}
 
@@ -39,10 +39,10 @@ tails_completes (suc need) low high bits len (b ∷ s) n k h =
     (λ t. absurd (subst Settled (rw t at h) tt)) (test? (between low high b))
 
 -- The same after a first byte.
-after_completes : (b : ℕ) (l : Lead) (s : List ℕ) (n : ℕ) → LeadSays b l → after_lead l s ≡ Incomplete n → Completes (after_lead l) s
+after_completes : (b : ℕ) (l : Option Lead) (s : List ℕ) (n : ℕ) → LeadSays b l → after_lead l s ≡ Incomplete n → Completes (after_lead l) s
 unfolding after_lead
-after_completes b Bad s n k h = absurd (subst Settled h tt)
-after_completes b (Good need low high bits) s n k h = tails_completes need low high bits 1 s n k.some h
+after_completes b None s n k h = absurd (subst Settled h tt)
+after_completes b (Some l) s n k h = tails_completes l.need l.low l.high l.bits 1 s n k.some h
 
 -- An incomplete character can be completed.
 pub incomplete_completes : (s : List ℕ) (n : ℕ) → read_char s ≡ Incomplete n
@@ -64,12 +64,12 @@ tails_soonest (suc need) low high bits len (b ∷ s) n h =
     (λ t. let f = rw t at h in let e : n ≡ len = cc in (0, omega arith, cc, rw t f)) (test? (between low high b))
 
 -- The same after a first byte.
-after_soonest : (b : ℕ) (l : Lead) (s : List ℕ) (n : ℕ) → lead_of b ≡ l → after_lead l s ≡ Illformed n
+after_soonest : (b : ℕ) (l : Option Lead) (s : List ℕ) (n : ℕ) → lead_of b ≡ l → after_lead l s ≡ Illformed n
     → (0 < n → read_char (take n (b ∷ s)) ≡ Incomplete n) × (read_char (b ∷ take n s) ≡ Illformed n)
 unfolding after_lead read_char
-after_soonest b Bad s n e h = let z : n ≡ 0 = cc in (λ p. absurd (omega arith), rw e h)
-after_soonest b (Good need low high bits) s n e h =
-    let w = tails_soonest need low high bits 1 s n h in
+after_soonest b None s n e h = let z : n ≡ 0 = cc in (λ p. absurd (omega arith), rw e h)
+after_soonest b (Some l) s n e h =
+    let w = tails_soonest l.need l.low l.high l.bits 1 s n h in
     let z : n ≡ suc w.0 = omega arith in
     subst (λ (k : ℕ). (0 < n → read_char (take k (b ∷ s)) ≡ Incomplete n) × (read_char (b ∷ take k s) ≡ Illformed n)) (sym z)
     (λ p. rw e w.2, rw e w.3)

@@ -15,7 +15,7 @@ use Rattle.lists.proofs.Choice.{facts, if_both, inside-between, outside_between}
 use Rattle.standard.specs.declared.characters.CharRead.{CharRead}
 use Rattle.standard.specs.declared.characters.CharRead.TheVariants.{Char, Incomplete, Illformed, End}
 use Rattle.standard.specs.declared.characters.Lead.{Lead}
-use Rattle.standard.specs.declared.characters.Lead.TheVariants.{Bad, Good}
+use Rattle.std.specs.Prelude.{Option, Some, None}
 use Rattle.standard.specs.Utf8.{lead_of, tails, after_lead, read_char}
 
 -- Where a byte is asked for and none is left, the character is incomplete.
@@ -67,7 +67,7 @@ read_end [] h = refl
 read_end (b ∷ s) h = absurd (omega arith)
 
 -- With a first byte, the character goes by what that says.
-pub read_lead : (s : List ℕ) (l : Lead) → 0 < length s → lead_of (get_or s 0 0) ≡ l → read_char s ≡ after_lead l (drop 1 s)
+pub read_lead : (s : List ℕ) (l : Option Lead) → 0 < length s → lead_of (get_or s 0 0) ≡ l → read_char s ≡ after_lead l (drop 1 s)
 unfolding read_char
 read_lead [] l h e = absurd (omega arith)
 read_lead (b ∷ s) l h e = rw e
@@ -108,9 +108,9 @@ pub record Opens (need b low high bits : ℕ) : Type 0 where
   pub only : (c : ℕ) → bits ≡ upper need c → Next need low high c → Size need c
 
 -- What a lead says of a first byte is so.
-abbrev pub LeadSays : ℕ → Lead → Type 0
-LeadSays b Bad = Unit {0}
-LeadSays b (Good need low high bits) = Opens need b low high bits
+abbrev pub LeadSays : ℕ → Option Lead → Type 0
+LeadSays b None = Unit {0}
+LeadSays b (Some l) = Opens l.need b l.low l.high l.bits
 
 -- What lead_of says of a first byte is so.
 pub lead_says : (b : ℕ) → LeadSays b (lead_of b)
@@ -126,8 +126,8 @@ lead_says b =
     if_both (LeadSays b) (eqb b 0xF4) _ _ (λ t8. omega facts) (λ t8. tt)))))))))
 
 -- A good first byte asks for at most three more and gives at most seven bits.
-pub lead_most : (b need low high bits : ℕ) → lead_of b ≡ Good need low high bits → (need ≤ 3) × (bits < 128)
-lead_most b need low high bits e = let k = subst (LeadSays b) e (lead_says b) in (k.few, k.small)
+pub lead_most : (b : ℕ) (l : Lead) → lead_of b ≡ Some l → (l.need ≤ 3) × (l.bits < 128)
+lead_most b l e = let k = subst (LeadSays b) e (lead_says b) in (k.few, k.small)
 
 -- The answer is a whole character.
 abbrev IsChar : CharRead → Type 0
@@ -167,10 +167,10 @@ tails-append (suc n) low high bits len (b ∷ s) t h =
     if_settled (between low high b) _ _ _ (tails-append n 0x80 0xBF (bits * 64 + b % 64) (suc len) s t) h
 
 -- A settled answer after a first byte does not change when bytes follow.
-after-append : (l : Lead) (s t : List ℕ) → Settled (after_lead l s) → after_lead l (s ++ t) ≡ after_lead l s
+after-append : (l : Option Lead) (s t : List ℕ) → Settled (after_lead l s) → after_lead l (s ++ t) ≡ after_lead l s
 unfolding after_lead
-after-append Bad s t h = refl
-after-append (Good need low high bits) s t h = tails-append need low high bits 1 s t h
+after-append None s t h = refl
+after-append (Some l) s t h = tails-append l.need l.low l.high l.bits 1 s t h
 
 -- A settled answer, neither Incomplete nor End, does not change when bytes follow.
 pub read-append : (s t : List ℕ) (r : CharRead) → read_char s ≡ r → Settled r → read_char (s ++ t) ≡ r
@@ -196,11 +196,16 @@ tails-within (suc n) low high bits len size total (b ∷ s) p d e =
     (λ t. tails-within n 0x80 0xBF (bits * 64 + b % 64) (suc len) size total s (omega arith) (omega arith) (omega arith)) (λ t. omega arith)
 
 -- So far goes the answer after a first byte.
-after-within : (b : ℕ) (l : Lead) (s : List ℕ) → LeadSays b l → (size : ℕ) × (1 ≤ size) × (size ≤ 4) × Within size (suc (length s)) (after_lead l s)
+after-within : (b : ℕ) (l : Option Lead) (s : List ℕ) → LeadSays b l
+    → (size : ℕ) × (1 ≤ size) × (size ≤ 4) × Within size (suc (length s)) (after_lead l s)
 unfolding after_lead
-after-within b Bad s h = (1, omega arith, omega arith, omega arith)
-after-within b (Good need low high bits) s h =
-    (suc need, omega arith, omega arith, tails-within need low high bits 1 (suc need) (suc (length s)) s (omega arith) (omega arith) (omega arith))
+after-within b None s h = (1, omega arith, omega arith, omega arith)
+after-within b (Some l) s h = (
+  suc l.need,
+  omega arith,
+  omega arith,
+  tails-within l.need l.low l.high l.bits 1 (suc l.need) (suc (length s)) s (omega arith) (omega arith) (omega arith),
+)
 
 -- So far goes the answer, where the character has one to four bytes.
 read-within : (s : List ℕ) (r : CharRead) → read_char s ≡ r → (size : ℕ) × (1 ≤ size) × (size ≤ 4) × Within size (length s) r
@@ -237,13 +242,13 @@ tails-take (suc n) low high bits len (b ∷ s) a m (suc j) h p =
     rw w.0 (tails-take n 0x80 0xBF (bits * 64 + b % 64) (suc len) s a m j w.1 (omega arith))
 
 -- The same after a first byte.
-after-take : (l : Lead) (s : List ℕ) (a m : ℕ) → after_lead l s ≡ Char a (suc m) → after_lead l (take m s) ≡ Char a (suc m)
+after-take : (l : Option Lead) (s : List ℕ) (a m : ℕ) → after_lead l s ≡ Char a (suc m) → after_lead l (take m s) ≡ Char a (suc m)
 unfolding after_lead
-after-take Bad s a m h = absurd (is-char h)
-after-take (Good need low high bits) s a m h =
-    let k = tails-within need low high bits 1 (suc need) (suc (length s)) s (omega arith) (omega arith) (omega arith) in
-    let e = subst (Within (suc need) (suc (length s))) h k in
-    tails-take need low high bits 1 s a (suc m) m h (omega arith)
+after-take None s a m h = absurd (is-char h)
+after-take (Some l) s a m h =
+    let k = tails-within l.need l.low l.high l.bits 1 (suc l.need) (suc (length s)) s (omega arith) (omega arith) (omega arith) in
+    let e = subst (Within (suc l.need) (suc (length s))) h k in
+    tails-take l.need l.low l.high l.bits 1 s a (suc m) m h (omega arith)
 
 -- A character's own bytes alone give it.
 pub read_take : (s : List ℕ) (a m : ℕ) → read_char s ≡ Char a m → read_char (take m s) ≡ Char a m

@@ -4,6 +4,11 @@ use Prim.Native.Char.{code}
 use Rattle.standard.specs.declared.Context.{Context}
 use Rattle.standard.specs.declared.Context.TheVariants.{Text, Attribute}
 
+-- Document 01, 'Whole-slice calls', '0 (text) and 1 (attribute)': its number.
+abbrev pub number_of : Context → ℕ
+number_of Text = 0
+number_of Attribute = 1
+
 -- The character before which a source ends.
 abbrev pub end_byte : Context → ℕ
 end_byte Text = code "<"

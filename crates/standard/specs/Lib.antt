@@ -8,3 +8,4 @@ pub mod NameList
 pub mod Answers
 pub mod Pieces
 pub mod Reading
+pub mod Records

@@ -1,5 +1,29 @@
 -- WHATWG HTML, 13.2.5.73: names, the longest one that stands at the front of some bytes, and tables of names as bytes.
-use Rattle.std.specs.Prelude.{ℕ, zero, suc, ◌+◌, List, [], ◌∷◌, ◌++◌, Bool, true, false, ◌||◌, ◌&&◌, ltb, leb, eqb, length, take, drop, if◌then◌else◌}
+use Rattle.std.specs.Prelude.{
+  ℕ,
+  zero,
+  suc,
+  ◌+◌,
+  List,
+  [],
+  ◌∷◌,
+  ◌++◌,
+  Bool,
+  true,
+  false,
+  ◌||◌,
+  ◌&&◌,
+  ltb,
+  leb,
+  eqb,
+  length,
+  take,
+  drop,
+  if◌then◌else◌,
+  Option,
+  Some,
+  None,
+}
 use Rattle.lists.specs.Bytes.{word32, four_bytes}
 use Rattle.standard.specs.declared.names.CharRef.{CharRef}
 use Rattle.standard.specs.declared.names.Found.{Found}
@@ -45,6 +69,15 @@ longest_from found (n ∷ names) s = longest_from (longer found n s) names s
 -- The longest name that stands at the front of s.
 unfoldable pub longest : List Name → List ℕ → Found
 longest names s = longest_from no_name names s
+
+-- What was found, or no name.
+abbrev pub found_of : Option Found → Found
+found_of None = no_name
+found_of (Some f) = f
+
+-- What was found, where that is a name.
+abbrev pub found_where : Found → Option Found
+found_where f = if eqb f.len 0 then None else Some f
 
 -- The bytes s are a beginning of some name.
 unfoldable pub begins : List Name → List ℕ → Bool

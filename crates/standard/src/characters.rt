@@ -3,7 +3,7 @@ ghost use Rattle.std.specs.Prelude.{◌≡◌, ◌≤◌, ◌<◌, length, drop}
 ghost use Rattle.standard.specs.Utf8.{read_char, lead_of, tails};
 
 // What stands at the front of some bytes.
-#[derive(Clone, Copy)]
+#[derive(Clone, Copy, PartialEq, Eq, Debug)]
 pub enum CharRead {
     // A whole character: its value, and how many bytes it has.
     Char { value: u32, len: usize },
@@ -17,134 +17,72 @@ pub enum CharRead {
 
 // What a first byte says: how many bytes follow it, the range of the next one, and the bits that it gives.
 #[derive(Clone, Copy)]
-enum Lead {
-    Bad,
-    Good {
-        need: usize,
-        low: u8,
-        high: u8,
-        bits: u32,
-    },
+struct Lead {
+    need: usize,
+    low: u8,
+    high: u8,
+    bits: u32,
 }
 
-fn lead_of(b: u8) -> Lead
+// What a byte says as a first one; none begins with another.
+fn lead_of(b: u8) -> Option<Lead>
     ensures { result ≡ lead_of b }
 {
-    if b < 0x80 {
-        return Lead::Good {
-            need: 0,
-            low: 0x80,
-            high: 0xBF,
-            bits: b as u32,
-        };
-    }
-    if b < 0xC2 {
-        return Lead::Bad;
-    }
-    if b < 0xE0 {
-        return Lead::Good {
-            need: 1,
-            low: 0x80,
-            high: 0xBF,
-            bits: (b - 0xC0) as u32,
-        };
-    }
-    if b == 0xE0 {
-        return Lead::Good {
-            need: 2,
-            low: 0xA0,
-            high: 0xBF,
-            bits: 0,
-        };
-    }
-    if b == 0xED {
-        return Lead::Good {
-            need: 2,
-            low: 0x80,
-            high: 0x9F,
-            bits: 0xD,
-        };
-    }
-    if b < 0xF0 {
-        return Lead::Good {
-            need: 2,
-            low: 0x80,
-            high: 0xBF,
-            bits: (b - 0xE0) as u32,
-        };
-    }
-    if b == 0xF0 {
-        return Lead::Good {
-            need: 3,
-            low: 0x90,
-            high: 0xBF,
-            bits: 0,
-        };
-    }
-    if b < 0xF4 {
-        return Lead::Good {
-            need: 3,
-            low: 0x80,
-            high: 0xBF,
-            bits: (b - 0xF0) as u32,
-        };
-    }
-    if b == 0xF4 {
-        return Lead::Good {
-            need: 3,
-            low: 0x80,
-            high: 0x8F,
-            bits: 4,
-        };
-    }
-    Lead::Bad
+    let (need, low, high, bits) = match b {
+        0x00..=0x7F => (0, 0x80, 0xBF, b),
+        0xC2..=0xDF => (1, 0x80, 0xBF, b - 0xC0),
+        0xE0 => (2, 0xA0, 0xBF, 0),
+        0xED => (2, 0x80, 0x9F, 0xD),
+        0xE1..=0xEF => (2, 0x80, 0xBF, b - 0xE0),
+        0xF0 => (3, 0x90, 0xBF, 0),
+        0xF1..=0xF3 => (3, 0x80, 0xBF, b - 0xF0),
+        0xF4 => (3, 0x80, 0x8F, 4),
+        _ => return None,
+    };
+    Some(Lead {
+        need,
+        low,
+        high,
+        bits: u32::from(bits),
+    })
 }
 
-// The bytes after the first one of rest: need of them are asked for, the next one from low to high.
-fn read_tails(rest: &[u8], need: usize, low: u8, high: u8, bits: u32) -> CharRead
-    requires { (1 ≤ length rest.now) × (need ≤ 3) × (bits < 128) }
-    ensures { result ≡ tails need low high bits 1 (drop 1 rest.now) }
+// The bytes after the first one of rest, which says that much of them.
+fn read_tails(rest: &[u8], lead: Lead) -> CharRead
+    requires some { 1 ≤ length rest.now }
+    requires few { lead.need ≤ 3 }
+    requires seven_bits { lead.bits < 128 }
+    ensures { result ≡ tails lead.need lead.low lead.high lead.bits 1 (drop 1 rest.now) }
 {
-    let mut left = need;
-    let mut lo = low;
-    let mut hi = high;
-    let mut value = bits;
-    let mut len: usize = 1;
-    while 0 < left {
-        if rest.len() <= len {
+    let mut low = lead.low;
+    let mut high = lead.high;
+    let mut value = lead.bits;
+    for len in 1..lead.need + 1 {
+        let Some(&b) = rest.get(len) else {
             return CharRead::Incomplete(len);
-        }
-        let b = rest[len];
-        if b < lo {
+        };
+        if b < low || high < b {
             return CharRead::Illformed(len);
         }
-        if hi < b {
-            return CharRead::Illformed(len);
-        }
-        value = value * 64 + (b % 64) as u32;
-        lo = 0x80;
-        hi = 0xBF;
-        left -= 1;
-        len += 1;
+        value = value * 64 + u32::from(b % 64);
+        low = 0x80;
+        high = 0xBF;
     }
-    CharRead::Char { value, len }
+    CharRead::Char {
+        value,
+        len: lead.need + 1,
+    }
 }
 
 // The character at the front of rest.
 pub fn read_char(rest: &[u8]) -> CharRead
     ensures { result ≡ read_char rest.now }
 {
-    if rest.len() == 0 {
+    let Some(first) = rest.first() else {
         return CharRead::End;
-    }
-    let Lead::Good {
-        need,
-        low,
-        high,
-        bits,
-    } = lead_of(rest[0])
-    else {
-        return CharRead::Illformed(0);
     };
-    read_tails(rest, need, low, high, bits)
+    match lead_of(*first) {
+        Some(lead) => read_tails(rest, lead),
+        None => CharRead::Illformed(0),
+    }
 }

@@ -4,7 +4,7 @@ ghost use Rattle.standard.specs.Names.{table_of};
 ghost use Rattle.standard.specs.NameList.{builtin};
 
 // The 216 names as records, sorted by name.
-const NAMES: [u8; 3101] = *b"\
+static NAMES: [u8; 3101] = *b"\
     \x05AElig\xC6\0\0\0\0\0\0\0\x06AElig;\xC6\0\0\0\0\0\0\0\x03AMP&\0\0\0\0\0\0\0\x04AMP;&\0\0\0\0\0\0\0\
     \x06Aacute\xC1\0\0\0\0\0\0\0\x07Aacute;\xC1\0\0\0\0\0\0\0\x05Acirc\xC2\0\0\0\0\0\0\0\x06Acirc;\xC2\0\0\0\0\0\0\0\
     \x06Agrave\xC0\0\0\0\0\0\0\0\x07Agrave;\xC0\0\0\0\0\0\0\0\x05Aring\xC5\0\0\0\0\0\0\0\x06Aring;\xC5\0\0\0\0\0\0\0\
@@ -60,9 +60,16 @@ const NAMES: [u8; 3101] = *b"\
     \x04uuml\xFC\0\0\0\0\0\0\0\x05uuml;\xFC\0\0\0\0\0\0\0\x06yacute\xFD\0\0\0\0\0\0\0\x07yacute;\xFD\0\0\0\0\0\0\0\
     \x03yen\xA5\0\0\0\0\0\0\0\x04yen;\xA5\0\0\0\0\0\0\0\x04yuml\xFF\0\0\0\0\0\0\0\x05yuml;\xFF\0\0\0\0\0\0\0";
 
-// The table of the built-in names: whoever looks names up takes it once and lends it to each lookup.
+// The table of the built-in names.
 pub fn builtin_names() -> [u8; 3101]
     ensures { result ≡ table_of builtin }
 {
     NAMES
+}
+
+// The same as it lies in the program: whoever looks names up lends it to each lookup.
+pub fn builtin_table() -> &'static [u8]
+    ensures { result.now ≡ table_of builtin }
+{
+    &NAMES
 }

@@ -1,9 +1,12 @@
 -- The invariant: what was read stands in the buffer.
-use Rattle.std.proofs.Common.{length, ◌-◌, ◌≤◌}
+use Rattle.std.proofs.Common.{◌≡◌, ◌-◌, ◌≤◌, length, take}
+use Rattle.std.specs.Io.KnownBytes.{Consumes}
 use Rattle.input.proofs.read_full.Given as goal
 
 abbrev pub invariant-loop-count : goal.invariant-loop-count
-invariant-loop-count g l = l.count ≤ length l.buffer
+invariant-loop-count g l =
+    (length l.buffer ≡ length l.initial.buffer) × (l.count ≤ length l.buffer)
+    × Consumes (g.R.Read.remaining l.initial.reader) (g.R.Read.remaining l.reader) (take l.count l.buffer)
 
 abbrev pub decreases-loop-count : goal.decreases-loop-count
 decreases-loop-count g l = length l.initial.buffer - l.count

@@ -13,10 +13,6 @@ returns-then-s c =
     let p = copy_fits {from = line (bytes "too long")} (omega (arith, c.requires.bytes_there)) c.copy.ensures in
     source-long c.args.context c.args.s.now c.args.errors.now (omega (arith, c.if-s.true)) p
 
-pub write_source-requires : goal.write_source-requires
-write_source-requires c =
-    (omega (arith, c.if-s.false), c.requires)
-
 pub returns : goal.returns
 returns c =
     source-short c.args.context c.args.s.now (omega (arith, c.if-s.false)) c.write_source.ensures

@@ -19,56 +19,51 @@ use Rattle.reporting.proofs.write_source.Goals as goal
 
 pub slice_bounds-put_read-end : goal.slice_bounds-put_read-end
 slice_bounds-put_read-end c =
-    let k = called c.requires.0 c.requires.1 c.decode_whole-decoded.ensures in
-    let r = read_end k c.if-decoded-eq0.true in
-    numbers_there r
+    numbers_there (read_end (called c.requires.short c.requires.rooms c.decode_whole-decoded.ensures) c.in-0.is)
 
-pub slice_bounds-put_read-end-then-decoded-eq0 : goal.slice_bounds-put_read-end-then-decoded-eq0
-slice_bounds-put_read-end-then-decoded-eq0 c =
-    let k = called c.requires.0 c.requires.1 c.decode_whole-decoded.ensures in
-    let r = read_end k c.if-decoded-eq0.true in
-    simp length-take (omega (arith, numbers_there r))
+pub slice_bounds-put_read-end-in-0 : goal.slice_bounds-put_read-end-in-0
+slice_bounds-put_read-end-in-0 c =
+    simp length-take
+    (omega (arith, numbers_there (read_end (called c.requires.short c.requires.rooms c.decode_whole-decoded.ensures) c.in-0.is)))
 
 pub put_read-requires : goal.put_read-requires
 unfolding computing_parts
 put_read-requires c =
-    let k = called c.requires.0 c.requires.1 c.decode_whole-decoded.ensures in
-    let r = read_end k c.if-decoded-eq0.true in
-    rest_room r (bytes "end ") (length c.args.s.now) (closing_end k c.if-decoded-eq0.true)
+    let k = called c.requires.short c.requires.rooms c.decode_whole-decoded.ensures in
+    rest_room (read_end k c.in-0.is) (bytes "end ") (length c.args.s.now) (closing_end k c.in-0.is)
 
-pub returns-then-decoded-eq0 : goal.returns-then-decoded-eq0
+pub returns-in-0 : goal.returns-in-0
 unfolding computing_parts
-returns-then-decoded-eq0 c =
-    let k = called c.requires.0 c.requires.1 c.decode_whole-decoded.ensures in
-    let r = read_end k c.if-decoded-eq0.true in
-    rest_written r (bytes "end ") (length c.args.s.now) (closing_end k c.if-decoded-eq0.true) c.put_read.ensures
+returns-in-0 c =
+    let k = called c.requires.short c.requires.rooms c.decode_whole-decoded.ensures in
+    rest_written (read_end k c.in-0.is) (bytes "end ") (length c.args.s.now) (closing_end k c.in-0.is) c.put_read.ensures
 
-pub slice_bounds-put_read-end-then-decoded-eq7 : goal.slice_bounds-put_read-end-then-decoded-eq7
-slice_bounds-put_read-end-then-decoded-eq7 c =
-    numbers_there (read_left (called c.requires.0 c.requires.1 c.decode_whole-decoded.ensures) c.if-decoded-eq7.true)
+pub slice_bounds-put_read-end-in-7 : goal.slice_bounds-put_read-end-in-7
+slice_bounds-put_read-end-in-7 c =
+    numbers_there (read_left (called c.requires.short c.requires.rooms c.decode_whole-decoded.ensures) c.in-7.is)
 
-pub slice_bounds-put_read-end-then-decoded-eq7-2 : goal.slice_bounds-put_read-end-then-decoded-eq7-2
-slice_bounds-put_read-end-then-decoded-eq7-2 c =
+pub slice_bounds-put_read-end-in-7-2 : goal.slice_bounds-put_read-end-in-7-2
+slice_bounds-put_read-end-in-7-2 c =
     simp length-take
-    (omega (arith, numbers_there (read_left (called c.requires.0 c.requires.1 c.decode_whole-decoded.ensures) c.if-decoded-eq7.true)))
+    (omega (arith, numbers_there (read_left (called c.requires.short c.requires.rooms c.decode_whole-decoded.ensures) c.in-7.is)))
 
-pub put_read-requires-then-decoded-eq7 : goal.put_read-requires-then-decoded-eq7
+pub put_read-requires-in-7 : goal.put_read-requires-in-7
 unfolding computing_parts
-put_read-requires-then-decoded-eq7 c =
-    let k = called c.requires.0 c.requires.1 c.decode_whole-decoded.ensures in
-    rest_room (read_left k c.if-decoded-eq7.true) (bytes "left ") _ (closing_left k c.if-decoded-eq7.true)
+put_read-requires-in-7 c =
+    let k = called c.requires.short c.requires.rooms c.decode_whole-decoded.ensures in
+    rest_room (read_left k c.in-7.is) (bytes "left ") _ (closing_left k c.in-7.is)
 
-pub returns-then-decoded-eq7 : goal.returns-then-decoded-eq7
+pub returns-in-7 : goal.returns-in-7
 unfolding computing_parts
-returns-then-decoded-eq7 c =
-    let k = called c.requires.0 c.requires.1 c.decode_whole-decoded.ensures in
-    rest_written (read_left k c.if-decoded-eq7.true) (bytes "left ") _ (closing_left k c.if-decoded-eq7.true) c.put_read-then-decoded-eq7.ensures
+returns-in-7 c =
+    let k = called c.requires.short c.requires.rooms c.decode_whole-decoded.ensures in
+    rest_written (read_left k c.in-7.is) (bytes "left ") _ (closing_left k c.in-7.is) c.put_read-in-7.ensures
 
 pub put_refused-requires : goal.put_refused-requires
 put_refused-requires c =
-    refused_room (called c.requires.0 c.requires.1 c.decode_whole-decoded.ensures) c.if-decoded-eq0.false c.if-decoded-eq7.false
+    refused_room (called c.requires.short c.requires.rooms c.decode_whole-decoded.ensures) (λ e. omega arith) (λ e. omega arith)
 
-pub returns : goal.returns
-returns c =
-    let k = called c.requires.0 c.requires.1 c.decode_whole-decoded.ensures in
-    refused_written k c.if-decoded-eq0.false c.if-decoded-eq7.false c.put_refused.ensures
+pub returns-in_default : goal.returns-in_default
+returns-in_default c =
+    let k = called c.requires.short c.requires.rooms c.decode_whole-decoded.ensures in
+    refused_written k (λ e. omega arith) (λ e. omega arith) c.put_refused.ensures

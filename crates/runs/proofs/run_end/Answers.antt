@@ -1,23 +1,41 @@
+use Rattle.std.specs.Prelude.{not}
 use mathlib.Core.Path.{sym, ◌∙◌, ap}
+use mathlib.Core.Bool.{true, ◌&&◌}
 use native.Mathlib.Omega.{arith}
 use lib.ListN.{length}
-use Rattle.lists.proofs.Fronts.{front-none, skipping_all, skipping_on, passed_block}
-use Rattle.runs.specs.Kinds as spec
+use Rattle.std.proofs.Common.{rules}
+use Rattle.std.proofs.lemmas.Iterator.{YieldsList-from_slice}
+use Rattle.std.proofs.lemmas.Iterator.Consumers.{fold_from_yields_List}
+use Rattle.std.proofs.lemmas.Iterator.Search.{position_from_yields_List}
+use Rattle.lists.proofs.Fronts.{front-none}
+use Rattle.runs.proofs.Testing.{block-passes, first-fails}
 use Rattle.runs.proofs.run_end.Goals as goal
 
 pub returns-then-s-from : goal.returns-then-s-from
-returns-then-s-from c = let a = c.args in omega (arith, ap length (front-none (spec.is_of a.kind) a.s.now a.from (omega arith)))
+returns-then-s-from g c = λ test tested. let a = c.args in omega (arith, ap length (front-none test a.s.now a.from (omega arith)))
 
-pub loop-at-init : goal.loop-at-init
-loop-at-init c = skipping_all (omega arith)
+pub loop-block-preserved : goal.loop-block-preserved
+loop-block-preserved g c =
+    let l = c.loop-block in
+    let parts = c.in-Some.ensures.cases in (
+      omega (arith, parts.2, l.invariant.0),
+      λ test tested.
+          let all =
+          fold_from_yields_List _ (λ a b. a && test b) true c.fold.result c.fold.ensures.ran (YieldsList-from_slice c.in-Some.block.now (cc))
+          (λ a x b q k. search (rules, tested)) in
+          omega (arith, block-passes test 32 l.rest.now parts (sym all ∙ c.if-not-fold.false), l.invariant.1 test tested, parts.2),
+    )
 
-pub returns-then-not-block_is_of : goal.returns-then-not-block_is_of
-returns-then-not-block_is_of c = c.bytes_end.ensures ∙ sym c.loop-at.invariant.same_end
-
-pub loop-at-preserved : goal.loop-at-preserved
-loop-at-preserved c =
-    let e = sym c.block_is_of.ensures ∙ c.if-not-block_is_of.false in
-    skipping_on (omega arith) c.loop-at.invariant (passed_block 32 (omega arith) e)
+pub returns-in-Some-position : goal.returns-in-Some-position
+returns-in-Some-position g c = λ test tested.
+    let l = c.loop-block in
+    let found = position_from_yields_List (λ b. not (test b)) _ _ c.position.result c.position.ensures.ran (YieldsList-from_slice l.rest.now (cc))
+    (λ x b q k. search (rules, tested)) in
+    omega (arith, rw c.in-Some-position.is at (first-fails test l.rest.now found), l.invariant.1 test tested, l.invariant.0)
 
 pub returns : goal.returns
-returns c = c.bytes_end-2.ensures ∙ sym c.loop-at.invariant.same_end
+returns g c = λ test tested.
+    let l = c.loop-block in
+    let found = position_from_yields_List (λ b. not (test b)) _ _ c.position.result c.position.ensures.ran (YieldsList-from_slice l.rest.now (cc))
+    (λ x b q k. search (rules, tested)) in
+    omega (arith, rw c.in-None.is at (first-fails test l.rest.now found), l.invariant.1 test tested, l.invariant.0)

@@ -1,18 +1,10 @@
-use mathlib.Core.Path.{sym, ◌∙◌, ap}
+use mathlib.Core.Path.{◌∙◌, ap}
 use lib.ListN.{drop}
 use Rattle.standard.specs.declared.characters.CharRead.{CharRead}
 use Rattle.standard.specs.Pieces.{character, encodes}
 use Rattle.standard.proofs.Skips.{rest_from}
-use Rattle.checker.specs.Pieces.{piece_of}
-use Rattle.checker.proofs.PieceLaws.{character-read, character-none}
+use Rattle.checker.proofs.PieceLaws.{character-none}
 use Rattle.checker.proofs.pieces.character.Goals as goal
-
-pub returns-in-Char : goal.returns-in-Char
-returns-in-Char c =
-    let a = c.args in
-    ap piece_of c.one.ensures
-    ∙ character-read (drop a.at a.s.now)
-    (rw (rest_from a.s.now a.at) at (sym c.read_char.ensures ∙ c.in-Char.is)) c.character_code.ensures
 
 pub returns-in_default : goal.returns-in_default
 unfolding encodes

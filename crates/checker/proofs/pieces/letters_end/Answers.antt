@@ -1,35 +1,21 @@
-use Prim.Native.Nat.{ℕ, ◌<◌}
-use mathlib.Core.Path.{◌≡◌, sym, ◌∙◌, ap}
+use Prim.Native.Nat.{ℕ, ◌+◌, ◌-◌, ◌<◌, ◌≤◌}
+use mathlib.Core.Path.{◌≡◌, ap}
 use mathlib.Core.List.{List}
-use mathlib.Core.Bool.{Bool}
-use native.Mathlib.Omega.{arith}
-use lib.ListN.{length, get_or}
-use Rattle.lists.proofs.Fronts.{skipping_all, skipping_on, skipped, passed_one, stopped_at, stopped_end}
+use mathlib.Core.Bool.{true, false}
+use lib.ListN.{length, get_or, take, drop}
+use borrow.Author.Rules.{rules}
 use Rattle.standard.specs.Classes.{alphanumeric}
-use Rattle.checker.proofs.Peeks.{peek_there}
+use Rattle.standard.proofs.Skips.{rest_from}
+use Rattle.checker.proofs.PieceLaws.{front_ends}
 use Rattle.checker.proofs.pieces.letters_end.Goals as goal
 
-pub loop-at-init : goal.loop-at-init
-loop-at-init c = skipping_all c.requires
-
--- What the test says of the byte.
-tested : (s : List ℕ) (at : ℕ) {seen : ℕ} {t : Bool} → at < length s → seen ≡ get_or s at 256 → t ≡ alphanumeric seen
-    → alphanumeric (get_or s at 0) ≡ t
-tested s at there is e = sym (e ∙ ap alphanumeric (is ∙ peek_there s at 256 0 there))
-
-pub returns-then-not-letter_or_digit : goal.returns-then-not-letter_or_digit
-returns-then-not-letter_or_digit c =
-    let there = c.loop-at-test.true in
-    skipped c.loop-at.invariant
-    (stopped_at there
-    (tested c.args.s.now _ there c.peek.ensures c.letter_or_digit.ensures ∙ c.if-not-letter_or_digit.true))
-
-pub loop-at-preserved : goal.loop-at-preserved
-loop-at-preserved c =
-    let there = c.loop-at-test.true in
-    skipping_on (omega arith) c.loop-at.invariant
-    (passed_one there
-    (tested c.args.s.now _ there c.peek.ensures c.letter_or_digit.ensures ∙ c.if-not-letter_or_digit.false))
-
 pub returns : goal.returns
-returns c = skipped c.loop-at.invariant (stopped_end (omega arith))
+returns c =
+    let s : List ℕ = c.args.s.now in
+    let from : ℕ = c.args.from in
+    let n : ℕ = c.unwrap_or.result in
+    let l : List ℕ = take (length s - from) (drop from s) in
+    let within : n ≤ length l = search rules in
+    let each : (i : ℕ) → i < n → alphanumeric (get_or l i 0) ≡ true = search rules in
+    let end : n < length l → alphanumeric (get_or l n 0) ≡ false = search rules in
+    ap (λ (m : ℕ). from + m) (rw (rest_from s from) at (front_ends alphanumeric l n within each end))

@@ -1,109 +1,74 @@
+use mathlib.Core.Path.{◌≡◌}
+use Rattle.std.specs.Prelude.{Some, None}
+use Rattle.std.proofs.lemmas.Result.{err_from_is_err_and}
+use Rattle.checker.specs.declared.rows.Reason.TheVariants.{TextDiffers, ErrorsDiffer}
 use native.Mathlib.Omega.{arith}
-use borrow.Author.Tests.{not-true, not-false}
-use Rattle.checker.proofs.Meetings.{lent_length}
 use Rattle.checker.proofs.RowLaws.{
-  judged_empty,
-  judged_past,
-  judged_byte,
-  judged_plain,
-  judged_inside,
-  judged_text,
-  judged_text_count,
-  judged_errors,
-  judged_errors_count,
-  judged_right,
+  row_empty,
+  row_past,
+  row_inside,
+  row_text,
+  row_text_count,
+  row_errors,
+  row_errors_count,
+  row_right,
+  row_plain,
+  row_byte,
 }
 use Rattle.checker.proofs.rows.judge_row.Goals as goal
 
-pub returns-then-source-eq0 : goal.returns-then-source-eq0
-returns-then-source-eq0 c =
-    judged_empty (omega arith)
-    c.wrong_for.ensures
+pub returns-then-size-eq0-clause-wrong : goal.returns-then-size-eq0-clause-wrong
+returns-then-size-eq0-clause-wrong g c = row_empty (omega arith)
 
-pub returns-then-s-at : goal.returns-then-s-at
-returns-then-s-at c =
-    judged_past (λ z. omega arith) (omega arith)
-    c.wrong_for-then-s-at.ensures
+pub returns-then-source-from-clause-wrong : goal.returns-then-source-from-clause-wrong
+returns-then-source-from-clause-wrong g c = row_past (λ z. omega arith) (omega arith)
 
-pub byte_row-requires : goal.byte_row-requires
-byte_row-requires c =
-    (omega arith, c.requires.1, c.requires.3)
+pub returns-in-Some-clause-right : goal.returns-in-Some-clause-right
+returns-in-Some-clause-right g c = row_byte (omega arith) c.requires c.in-Some.ensures
 
-pub overflow_add-result-then-byte_row : goal.overflow_add-result-then-byte_row
-overflow_add-result-then-byte_row c = omega (arith, (c.byte_row.ensures c.if-byte_row.true).there)
+pub returns-then-plain_row-clause-right : goal.returns-then-plain_row-clause-right
+returns-then-plain_row-clause-right g c =
+    row_plain (omega arith) c.requires (λ z. omega arith) (c.plain_row.ensures c.if-plain_row.true)
 
-pub overflow_mul-result : goal.overflow_mul-result
-overflow_mul-result c =
-    omega (arith, c.ranges.k)
+pub returns-then-joint-from-clause-wrong : goal.returns-then-joint-from-clause-wrong
+returns-then-joint-from-clause-wrong g c =
+    row_inside (record { some = λ z. omega arith; fits = omega arith; joins = c.meet_pieces-joint.ensures }) c.if-joint-from.true
 
-pub overflow_add-result-then-byte_row-2 : goal.overflow_add-result-then-byte_row-2
-overflow_add-result-then-byte_row-2 c =
-    omega (arith, (c.byte_row.ensures c.if-byte_row.true).codes.there, lent_length c.args.errors.now c.args.error_bytes.now)
+pub returns-in_err-text-clause-wrong : goal.returns-in_err-text-clause-wrong
+returns-in_err-text-clause-wrong g c =
+    let p = err_from_is_err_and c.from_residual.result c.from_residual.ensures.1 in
+    let none : c.meet_pieces-joint.result.text ≡ None = grind arith in
+    let why : c.in_err-text.field-0.0 ≡ TextDiffers = grind arith in
+    rw (p.1, p.2, why)
+    (row_text (record { some = λ z. omega arith; fits = omega arith; joins = c.meet_pieces-joint.ensures }) c.if-joint-from.false none)
 
-pub returns-then-byte_row : goal.returns-then-byte_row
-returns-then-byte_row c =
-    judged_byte (λ z. omega arith) (omega (arith, c.if-s-at.false)) c.requires.0 c.requires.3
-    (c.byte_row.ensures c.if-byte_row.true)
+pub returns-then-text-from-clause-wrong : goal.returns-then-text-from-clause-wrong
+returns-then-text-from-clause-wrong g c =
+    let some : c.meet_pieces-joint.result.text ≡ Some c.in_ok-text.text = grind arith in
+    row_text_count (record { some = λ z. omega arith; fits = omega arith; joins = c.meet_pieces-joint.ensures })
+    c.if-joint-from.false some
+    c.if-text-from.true
 
-pub plain_row-requires : goal.plain_row-requires
-plain_row-requires c =
-    (omega arith, c.requires.2)
+pub returns-in_err-errors-clause-wrong : goal.returns-in_err-errors-clause-wrong
+returns-in_err-errors-clause-wrong g c =
+    let p = err_from_is_err_and c.from_residual-in_err-errors.result c.from_residual-in_err-errors.ensures.1 in
+    let some : c.meet_pieces-joint.result.text ≡ Some c.in_ok-text.text = grind arith in
+    let none : c.meet_pieces-joint.result.errors ≡ None = grind arith in
+    let why : c.in_err-errors.field-0.0 ≡ ErrorsDiffer = grind arith in
+    rw (p.1, p.2, why)
+    (row_errors (record { some = λ z. omega arith; fits = omega arith; joins = c.meet_pieces-joint.ensures })
+    c.if-joint-from.false some c.if-text-from.false none)
 
-pub overflow_add-result-then-plain_row-2 : goal.overflow_add-result-then-plain_row-2
-overflow_add-result-then-plain_row-2 c = omega (arith, (c.plain_row.ensures c.if-plain_row.true).there)
+pub returns-then-errors-from-clause-wrong : goal.returns-then-errors-from-clause-wrong
+returns-then-errors-from-clause-wrong g c =
+    let some : c.meet_pieces-joint.result.text ≡ Some c.in_ok-text.text = grind arith in
+    let sound : c.meet_pieces-joint.result.errors ≡ Some c.in_ok-errors.errors = grind arith in
+    row_errors_count (record { some = λ z. omega arith; fits = omega arith; joins = c.meet_pieces-joint.ensures })
+    c.if-joint-from.false some c.if-text-from.false sound c.if-errors-from.true
 
-pub returns-then-plain_row : goal.returns-then-plain_row
-returns-then-plain_row c =
-    judged_plain (λ z. omega arith) (omega (arith, c.if-s-at.false)) c.requires.0 c.requires.3
-    (c.plain_row.ensures c.if-plain_row.true)
-
-pub returns-then-joint-at : goal.returns-then-joint-at
-returns-then-joint-at c =
-    judged_inside (λ z. omega arith) (omega (arith, c.if-s-at.false)) c.meet_pieces-joint.ensures
-    (λ z. omega (arith, c.if-joint-at.true))
-    c.wrong_for-then-joint-at.ensures
-
-pub returns-then-not-met_text : goal.returns-then-not-met_text
-returns-then-not-met_text c =
-    judged_text (λ z. omega arith) (omega (arith, c.if-s-at.false)) c.meet_pieces-joint.ensures (omega (arith, c.if-joint-at.false))
-    (not-true _ c.if-not-met_text.true)
-    c.wrong_for-then-not-met_text.ensures
-
-pub overflow_sub-met_text : goal.overflow_sub-met_text
-overflow_sub-met_text c =
-    omega (arith, c.meet_pieces-joint.ensures.text_met.at_is (not-false _ c.if-not-met_text.false))
-
-pub returns-then-met_text-t : goal.returns-then-met_text-t
-returns-then-met_text-t c =
-    judged_text_count (λ z. omega arith) (omega (arith, c.if-s-at.false)) c.meet_pieces-joint.ensures (omega (arith, c.if-joint-at.false))
-    (not-false _ c.if-not-met_text.false) (λ z. omega (arith, c.if-met_text-t.true))
-    c.wrong_for-then-met_text-t.ensures
-
-pub returns-then-not-met_errors : goal.returns-then-not-met_errors
-returns-then-not-met_errors c =
-    judged_errors (λ z. omega arith) (omega (arith, c.if-s-at.false)) c.meet_pieces-joint.ensures (omega (arith, c.if-joint-at.false))
-    (not-false _ c.if-not-met_text.false) (omega (arith, c.if-met_text-t.false)) (not-true _ c.if-not-met_errors.true)
-    c.wrong_for-then-not-met_errors.ensures
-
-pub overflow_sub-met_errors : goal.overflow_sub-met_errors
-overflow_sub-met_errors c =
-    omega (arith, c.meet_pieces-joint.ensures.errors_met.at_is (not-false _ c.if-not-met_errors.false))
-
-pub overflow_mul-k : goal.overflow_mul-k
-overflow_mul-k c =
-    omega (arith, c.ranges.k)
-
-pub returns-then-met_errors-e : goal.returns-then-met_errors-e
-returns-then-met_errors-e c =
-    judged_errors_count (λ z. omega arith) (omega (arith, c.if-s-at.false)) c.meet_pieces-joint.ensures
-    (omega (arith, c.if-joint-at.false)) (not-false _ c.if-not-met_text.false) (omega (arith, c.if-met_text-t.false))
-    (not-false _ c.if-not-met_errors.false)
-    (λ z. omega (arith, c.if-met_errors-e.true))
-    c.wrong_for-then-met_errors-e.ensures
-
-pub returns : goal.returns
-returns c =
-    judged_right (λ z. omega arith) (omega (arith, c.if-s-at.false)) c.meet_pieces-joint.ensures (omega (arith, c.if-joint-at.false))
-    (not-false _ c.if-not-met_text.false) (omega (arith, c.if-met_text-t.false)) (not-false _ c.if-not-met_errors.false)
-    (omega (arith, c.if-met_errors-e.false))
-    c.requires.0
+pub returns-clause-right : goal.returns-clause-right
+returns-clause-right g c =
+    let some : c.meet_pieces-joint.result.text ≡ Some c.in_ok-text.text = grind arith in
+    let sound : c.meet_pieces-joint.result.errors ≡ Some c.in_ok-errors.errors = grind arith in
+    row_right (record { some = λ z. omega arith; fits = omega arith; joins = c.meet_pieces-joint.ensures })
+    c.if-joint-from.false some c.if-text-from.false sound c.if-errors-from.false c.requires

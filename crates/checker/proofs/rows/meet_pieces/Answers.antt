@@ -1,57 +1,54 @@
+use mathlib.Core.Path.{◌≡◌, sym, ◌∙◌}
+use Prim.Native.Nat.{◌-◌}
+use lib.ListN.{length, drop}
+use mathlib.Core.List.{List}
+use Prim.Native.Nat.{ℕ}
+use Rattle.checker.specs.Meeting.{met_on}
+use Rattle.checker.proofs.SpanLaws.{alike_part}
 use native.Mathlib.Omega.{arith}
-use Rattle.checker.specs.Pieces.{piece_of}
-use Rattle.checker.proofs.Walking.{run_over, next_there, next_on, walked}
+use Rattle.standard.specs.Pieces.{char_ref_text}
+use Rattle.standard.specs.Errors.{placed, numbers}
+use Rattle.checker.specs.Pieces.{codes_of, piece_of}
+use Rattle.checker.proofs.Walking.{walk-run, piece_there, walk_goes_on, walked, met_from, met_nowhere}
 use Rattle.checker.proofs.rows.meet_pieces.Goals as goal
+use Rattle.checker.proofs.rows.meet_pieces.Goals.{in-Some+else-run-ne0, in_default, in-Some-text, in_default-text, in-Some-errors, in_default-errors}
 
-pub loop-at-init : goal.loop-at-init
-loop-at-init c = record { there = omega arith; text_there = omega arith; errors_there = omega arith; rest = λ r j. j }
+pub loop-at-preserved-then-run-ne0 : goal.loop-at-preserved-then-run-ne0
+loop-at-preserved-then-run-ne0 g c =
+    let s = c.args.source.now.covered.now in
+    let text = c.args.transcript.now.text.now in
+    let run = c.alike_front-run.ensures in
+    walk-run (rw c.in-Some.is at c.loop-at.invariant) c.alike_front-run.result (omega (arith, run.source)) (omega (arith, run.source))
+    (omega (arith, run.text))
+    (alike_part (drop c.loop-at.at s) (drop c.in-Some.t text) (c.args.end - c.loop-at.at) (length text - c.in-Some.t) _ (omega (arith, run.source))
+    (omega (arith, run.text)) run.each)
 
-pub text_run-run-requires : goal.text_run-run-requires
-text_run-run-requires c = (omega arith, omega arith, c.loop-at.invariant.text_there)
-
-pub overflow_add-here : goal.overflow_add-here
-overflow_add-here c = omega (arith, c.text_run-run.ensures.0)
-
-pub overflow_add-met : goal.overflow_add-met
-overflow_add-met c = omega (arith, c.text_run-run.ensures.1)
-
-pub returns-then-here-end : goal.returns-then-here-end
-returns-then-here-end c =
-    walked (run_over c.loop-at.invariant c.text_run-run.ensures c.loop-at-test.true c.requires.1) (omega (arith, c.if-here-end.true))
-
-pub piece_at-piece-requires : goal.piece_at-piece-requires
-piece_at-piece-requires c =
-    omega (arith, c.text_run-run.ensures.0, c.loop-at-test.true, c.requires.1, c.if-here-end.false)
-
-pub meet_text-met_text-requires : goal.meet_text-met_text-requires
-meet_text-met_text-requires c =
-    c.text_run-run.ensures.1
-
-pub overflow_cast-here : goal.overflow_cast-here
-overflow_cast-here c =
-    omega (arith, c.text_run-run.ensures.0, c.loop-at-test.true, c.requires.1, c.requires.2)
-
-pub meet_codes-met_errors-requires : goal.meet_codes-met_errors-requires
-meet_codes-met_errors-requires c =
-    c.loop-at.invariant.errors_there
-
-pub overflow_add-at : goal.overflow_add-at
-overflow_add-at c =
-    let there = next_there c.loop-at.invariant c.text_run-run.ensures c.loop-at-test.true c.requires.1 c.if-here-end.false
-    (piece_of c.piece_at-piece.result) c.piece_at-piece.ensures in
-    omega (arith, there, c.requires.2)
+pub overflow_add-at-in-loop-at : goal.overflow_add-at-in-loop-at
+overflow_add-at-in-loop-at g c =
+    omega (arith, piece_there c.loop-at.invariant c.loop-at-test.true (omega arith) (piece_of c.piece_at-piece.result) c.piece_at-piece.ensures)
 
 pub loop-at-smaller : goal.loop-at-smaller
-loop-at-smaller c =
-    let there = next_there c.loop-at.invariant c.text_run-run.ensures c.loop-at-test.true c.requires.1 c.if-here-end.false
-    (piece_of c.piece_at-piece.result) c.piece_at-piece.ensures in
-    omega (arith, there)
+loop-at-smaller g c =
+    omega (arith, piece_there c.loop-at.invariant c.loop-at-test.true (omega arith) (piece_of c.piece_at-piece.result) c.piece_at-piece.ensures)
 
 pub loop-at-preserved : goal.loop-at-preserved
-loop-at-preserved c =
-    next_on c.loop-at.invariant c.text_run-run.ensures c.loop-at-test.true c.requires.1
-    c.if-here-end.false (piece_of c.piece_at-piece.result) c.piece_at-piece.ensures
-    c.meet_text-met_text.ensures c.meet_codes-met_errors.ensures
+loop-at-preserved g c =
+    let p = c.piece_at-piece.result in
+    let words : List ℕ = char_ref_text p.reference in
+    let codes : List ℕ = numbers (placed c.loop-at.at (codes_of p.unclosed p.code)) in
+    let same : c.match-text.text ≡ c.loop-at.text =
+    elim c.match-text.branch [ in-Some+else-run-ne0 w ↦ w.text-is ∙ sym w.in-Some.is | in_default w ↦ w.text-is ] in
+    let text_is : c.match-text-2.text ≡ met_on words c.args.transcript.now.text.now c.match-text.text =
+    elim c.match-text-2.branch [
+      | in-Some-text w ↦ met_from words _ w.in-Some-text.is (w.text-is ∙ w.meet_text-text.ensures)
+      | in_default-text w ↦ met_nowhere words _ _ w.in_default-text.not-Some w.text-is
+    ] in
+    let errors_is : c.match-errors.errors ≡ met_on codes (g.N.Numbers.list c.args.transcript.now.errors) c.loop-at.errors =
+    elim c.match-errors.branch [
+      | in-Some-errors w ↦ met_from codes _ w.in-Some-errors.is (w.errors-is ∙ w.meet_codes-errors.ensures)
+      | in_default-errors w ↦ met_nowhere codes _ _ w.in_default-errors.not-Some w.errors-is
+    ] in
+    walk_goes_on c.loop-at.invariant c.loop-at-test.true (omega arith) (piece_of p) c.piece_at-piece.ensures (rw same at text_is) errors_is
 
 pub returns : goal.returns
-returns c = walked c.loop-at.invariant (omega arith)
+returns g c = walked c.loop-at.invariant (omega arith)

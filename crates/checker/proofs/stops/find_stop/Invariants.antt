@@ -5,8 +5,8 @@ use Rattle.standard.specs.Reading.{calls_for}
 use Rattle.standard.proofs.Looking.{Looking}
 use Rattle.checker.proofs.stops.find_stop.Given as goal
 
-abbrev pub invariant-loop-context : goal.invariant-loop-context
-invariant-loop-context l = Looking (calls_for l.context) l.s l.at
+abbrev pub invariant-loop-at : goal.invariant-loop-at
+invariant-loop-at l = Looking (calls_for l.fn.context) l.s l.at
 
-abbrev pub decreases-loop-context : goal.decreases-loop-context
-decreases-loop-context l = length l.s - l.at
+abbrev pub decreases-loop-at : goal.decreases-loop-at
+decreases-loop-at l = length l.s - l.at

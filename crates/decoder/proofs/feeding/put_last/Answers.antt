@@ -8,12 +8,10 @@ use Rattle.decoder.proofs.feeding.put_last.Goals as goal
 
 pub put_turn-requires : goal.put_turn-requires
 put_turn-requires c = (
-  c.requires.2,
-  c.requires.3,
   c.finish-released.ensures.within,
-  fit_count c.args.held c.requires.1,
-  fit_long c.args.held
-      c.requires.1,
+  fit_count c.args.held c.requires.0,
+  fit_long c.args.held c.requires.0,
+  c.requires.1,
 )
 
 pub returns : goal.returns
@@ -27,5 +25,4 @@ returns c =
           ∙ none-gives 0 0 (released_of a.held f.result) ∙ f.ensures.gives)
           p.0,
       p.1,
-      p.2,
     )

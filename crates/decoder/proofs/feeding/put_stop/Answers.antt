@@ -8,4 +8,4 @@ returns-then-answer-eq7 c = rw (eq-eqb c.args.answer 7
     c.if-answer-eq7.true) c.put_last.ensures
 
 pub returns : goal.returns
-returns c = rw (ne_eqb c.args.answer 7 c.if-answer-eq7.false) (wrote_none _ _ _ _, omega arith, omega arith)
+returns c = rw (ne_eqb c.args.answer 7 c.if-answer-eq7.false) (wrote_none _ _ _ _, (omega arith, omega arith))

@@ -5,14 +5,13 @@ use Rattle.decoder.proofs.Taking.{taken_start, taken_open, taken_count, taken_mo
 use Rattle.decoder.proofs.feeding.walk.Goals as goal
 
 pub loop-at-init : goal.loop-at-init
-loop-at-init c = taken_start c.requires.1
+loop-at-init c = taken_start c.requires.0
 
 pub skim_on-ahead-requires : goal.skim_on-ahead-requires
 skim_on-ahead-requires c =
     let l = c.loop-at in
     let count = taken_count l.invariant in
-    let short = c.requires.2 in (
-      c.requires.0,
+    let short = c.requires.1 in (
       taken_open l.invariant,
       omega (arith, count),
       omega
@@ -51,11 +50,9 @@ pub take_byte-next-requires : goal.take_byte-next-requires
 take_byte-next-requires c =
     let m = taken_moves c.loop-at.invariant c.skim_on-ahead.ensures in
     let room = taken_free m c.lacks_room.ensures c.if-lacks_room.false in (
-      c.requires.0,
       taken_open m,
-      omega (arith, taken_count m, c.requires.2, m.there, c.if-at-chunk.false),
-      room.0,
-      room.1,
+      omega (arith, taken_count m, c.requires.1, m.there, c.if-at-chunk.false),
+      room,
     )
 
 pub returns-then-next-ne0 : goal.returns-then-next-ne0
@@ -67,7 +64,7 @@ returns-then-next-ne0 c =
 pub overflow_add-at : goal.overflow_add-at
 overflow_add-at c =
     let m = taken_moves c.loop-at.invariant c.skim_on-ahead.ensures in
-    omega (arith, m.there, c.requires.2)
+    omega (arith, m.there, c.requires.1)
 
 pub loop-at-smaller : goal.loop-at-smaller
 loop-at-smaller c =

@@ -1,5 +1,6 @@
-use mathlib.Core.Path.{refl, ◌∙◌}
+use mathlib.Core.Path.{◌≡◌, refl, ◌∙◌}
 use native.Mathlib.Omega.{arith}
+use lib.ListN.{length}
 use Rattle.standard.proofs.Digits.{both, digits_end, digits_stop, digits_more}
 use Rattle.decoder.proofs.numbers.do_numeric.Goals as goal
 
@@ -25,4 +26,6 @@ loop-end-preserved c =
 
 pub returns : goal.returns
 returns c =
-    let l = c.loop-end in both (l.invariant.0 ∙ digits_end _ _ l.value l.end l.invariant.2 (omega arith))
+    let l = c.loop-end in
+    let all : length c.args.rest.now ≡ l.end = omega arith in
+    rw all (both (l.invariant.0 ∙ digits_end _ _ l.value l.end l.invariant.2 (omega arith)))

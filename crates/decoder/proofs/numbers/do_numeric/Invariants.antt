@@ -1,5 +1,5 @@
 -- do_numeric reads what digits_from says: at each turn it is what digits_from gives from here on, after the number so far.
-use Prim.Native.Nat.{◌≤◌, ◌-◌}
+use Prim.Native.Nat.{◌≤◌}
 use mathlib.Core.Path.{◌≡◌}
 use lib.ListN.{length}
 use Rattle.standard.proofs.Digits.{digits_from}
@@ -8,6 +8,3 @@ use Rattle.decoder.proofs.numbers.do_numeric.Given as goal
 abbrev pub invariant-loop-end : goal.invariant-loop-end
 invariant-loop-end l =
     (digits_from l.base l.rest 0 l.from ≡ digits_from l.base l.rest l.value l.end) × (l.end ≤ length l.rest) × (l.value ≤ 0x110000)
-
-abbrev pub decreases-loop-end : goal.decreases-loop-end
-decreases-loop-end l = length l.rest - l.end

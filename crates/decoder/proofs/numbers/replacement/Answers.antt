@@ -6,13 +6,13 @@ use Rattle.standard.specs.Numbers.{replacements, replaced_by}
 use Rattle.standard.proofs.Replaced.{values, value_of, outside_c1}
 use Rattle.decoder.proofs.numbers.replacement.Goals as goal
 
-pub returns-then-n-lt128 : goal.returns-then-n-lt128
-returns-then-n-lt128 c = sym (outside_c1 _ (inl c.if-n-lt128.true))
-
-pub returns-then-n-gt159 : goal.returns-then-n-gt159
-returns-then-n-gt159 c = sym (outside_c1 _ (inr c.if-n-gt159.true))
-
 -- The array is the values of replaced_by from 0x80 on, by computing.
-pub returns : goal.returns
+pub returns-in-128-to-159 : goal.returns-in-128-to-159
 unfolding values replacements replaced_by
-returns c = value_of (replaced_by replacements) 32 0x80 c.args.n (omega arith) (omega arith)
+returns-in-128-to-159 c = value_of (replaced_by replacements) 32 0x80 c.args.n (omega arith) (omega arith)
+
+pub returns-in_default : goal.returns-in_default
+returns-in_default c = sym (outside_c1 _ (inl (omega arith)))
+
+pub returns-in_default-2 : goal.returns-in_default-2
+returns-in_default-2 c = sym (outside_c1 _ (inr (omega arith)))

@@ -23,15 +23,6 @@ pub returns-then-not-within : goal.returns-then-not-within
 unfolding is_open
 returns-then-not-within c = let r = c.args.stream in rw c.if-not-within.true
 
-pub holds-stored-requires : goal.holds-stored-requires
-holds-stored-requires c =
-    (c.requires, (limits c.args.stream c.if-not-within.false).0)
-
-pub is_part-begun-requires : goal.is_part-begun-requires
-is_part-begun-requires c =
-    let r = c.args.stream in
-    (limits r c.if-not-within.false).1
-
 pub overflow_add-taken : goal.overflow_add-taken
 overflow_add-taken c =
     let r = c.args.stream in

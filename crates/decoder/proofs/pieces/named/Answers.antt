@@ -1,9 +1,8 @@
-use native.Mathlib.Omega.{arith}
-use Rattle.standard.proofs.FrontPiece.{found-there}
+use mathlib.Core.Path.{◌∙◌, ap}
+use Rattle.standard.specs.declared.names.Found.{Found}
+use Rattle.standard.specs.Pieces as standard
 use Rattle.decoder.proofs.pieces.named.Goals as goal
 
-pub named_by-requires : goal.named_by-requires
-named_by-requires c = omega (arith, found-there _ _ c.longest_name-found.ensures)
-
 pub returns : goal.returns
-returns c = rw (← c.longest_name-found.ensures) c.named_by.ensures
+returns c =
+    c.named_by.ensures ∙ ap (λ (f : Found). standard.named_by c.args.context f c.args.rest.now) c.longest_name.ensures.longest

@@ -6,15 +6,15 @@ use Rattle.standard.proofs.FrontPiece.{first_reference, first_character}
 use Rattle.decoder.proofs.PieceLaws.{front_newline}
 use Rattle.decoder.proofs.pieces.piece_at.Goals as goal
 
-pub returns-then-b-eq13 : goal.returns-then-b-eq13
-returns-then-b-eq13 c =
+pub returns-in-13 : goal.returns-in-13
+returns-in-13 c =
     let s = c.args.rest.now in
-    ap piece_of (rw (rest_from s 1) at c.newline.ensures) ∙ front_newline _ _ s (omega arith) c.if-b-eq13.true
+    ap piece_of (rw (rest_from s 1) at c.newline.ensures) ∙ front_newline _ _ s (omega arith) c.in-13.is
 
-pub returns-then-b-eq38 : goal.returns-then-b-eq38
-returns-then-b-eq38 c =
+pub returns-in-38 : goal.returns-in-38
+returns-in-38 c =
     let s = c.args.rest.now in
-    rw (rest_from s 1) at c.reference.ensures ∙ sym (first_reference _ _ s (omega arith) c.if-b-eq38.true)
+    rw (rest_from s 1) at c.reference.ensures ∙ sym (first_reference _ _ s (omega arith) c.in-38.is)
 
-pub returns : goal.returns
-returns c = c.character.ensures ∙ sym (first_character _ _ _ (omega arith) c.if-b-eq13.false c.if-b-eq38.false)
+pub returns-in_default : goal.returns-in_default
+returns-in_default c = c.character.ensures ∙ sym (first_character _ _ _ (omega arith) (λ e. omega (arith, e)) (λ e. omega (arith, e)))

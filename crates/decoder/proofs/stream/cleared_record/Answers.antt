@@ -7,13 +7,13 @@ use Rattle.decoder.specs.Stream.{record_of}
 use Rattle.decoder.proofs.Returns.{opened}
 use Rattle.decoder.proofs.stream.cleared_record.Goals as goal
 
-pub canonical-held-requires : goal.canonical-held-requires
-canonical-held-requires c =
+pub canonical-requires : goal.canonical-requires
+canonical-requires c =
     let p = opened c.args.«record» c.requires in
     (p.count, p.stored)
 
-pub kept-part-requires : goal.kept-part-requires
-kept-part-requires c =
+pub kept-requires : goal.kept-requires
+kept-requires c =
     let p = opened c.args.«record» c.requires in
     let three : length c.args.«record».part ≡ 3 = search rules in
     (p.part, omega (arith, p.part, three))
@@ -26,8 +26,8 @@ returns c =
     let three : length r.part ≡ 3 = search rules in
     λ i. record {
       context = r.context;
-      held = c.canonical-held.ensures i;
-      part = c.kept-part.ensures i;
+      held = c.canonical.ensures i;
+      part = c.kept.ensures i;
       part_count = sym (length-take-le r.part_count r.part (omega (arith, p.part, three))) i;
       taken = r.taken;
     }

@@ -1,10 +1,12 @@
 use Prim.Native.Nat.{ℕ}
 use mathlib.Core.Path.{◌≡◌, refl, ◌∙◌, ap}
 use mathlib.Core.List.{List}
+use mathlib.Core.Logic.{inl, inr}
 use native.Mathlib.Omega.{arith}
 use Rattle.standard.specs.declared.Context.{Context}
 use Rattle.standard.specs.Errors.{placed}
 use Rattle.standard.specs.Numbers.{meaning_of}
+use Rattle.standard.specs.Names.{longest}
 use Rattle.standard.specs.NameList.{builtin}
 use Rattle.standard.specs.Pieces.{encodes, named_by}
 use Rattle.decoder.specs.declared.stream.State.{State}
@@ -12,7 +14,7 @@ use Rattle.decoder.specs.declared.stream.State.TheVariants as kind
 use Rattle.decoder.specs.Machine.{text_only, finish}
 use Rattle.decoder.specs.Stream.{store_of, st_by, st_of}
 use Rattle.decoder.specs.Turns.{Fits}
-use Rattle.decoder.proofs.NameTurns.{found_read, name-within, name-part, name-finish}
+use Rattle.decoder.proofs.NameTurns.{name-within, name-part, name-finish}
 use Rattle.decoder.proofs.TurnLaws.{alone-read, releases, number_open, told_stored, told_fits, told_releases, number_fits, held-stored}
 use Rattle.decoder.proofs.turns.finish.Goals as goal
 
@@ -33,17 +35,17 @@ others context kind.Closed q s b o h n m = refl
 
 pub slice_bounds-named-count : goal.slice_bounds-named-count
 unfolding st_by store_of
-slice_bounds-named-count c = omega (arith, (told_stored c.requires.1 c.in-Named.is).count_is)
+slice_bounds-named-count c = omega (arith, (told_stored c.requires c.in-Named.is).count_is)
 
 pub slice_bounds-named-start : goal.slice_bounds-named-start
 unfolding st_by store_of
 slice_bounds-named-start c =
-    omega (arith, (told_stored c.requires.1 c.in-Named.is).count_is)
+    omega (arith, (told_stored c.requires c.in-Named.is).count_is)
 
 pub slice_bounds-named-end : goal.slice_bounds-named-end
 unfolding st_by store_of Fits
 slice_bounds-named-end c =
-    let fit = c.requires.1 in
+    let fit = c.requires in
     let is = c.in-Named.is in
     name-within (told_stored fit is) (told_fits fit is).0
 
@@ -51,48 +53,42 @@ pub returns-in-Begin : goal.returns-in-Begin
 unfolding st_by store_of finish placed
 returns-in-Begin c =
     let is = c.in-Begin.is in
-    told_releases c.requires.1 is c.args.context
-    (releases (told_stored c.requires.1 is) c.one.ensures (alone-read c.args.held.place 0 _) (omega arith))
+    told_releases c.requires is c.args.context
+    (releases (told_stored c.requires is) c.one.ensures (alone-read c.args.held.place 0 _) (omega arith))
 
 pub returns-in-Octothorpe : goal.returns-in-Octothorpe
 unfolding st_by store_of finish placed
-returns-in-Octothorpe c =
-    let is = c.in-Octothorpe.is in
-    told_releases c.requires.1 is c.args.context
-    (releases (told_stored c.requires.1 is) c.one-in-Octothorpe.ensures (alone-read c.args.held.place 1 _) (omega arith))
-
-pub returns-in-HexBegin : goal.returns-in-HexBegin
-unfolding st_by store_of finish placed
-returns-in-HexBegin c =
-    let is = c.in-HexBegin.is in
-    told_releases c.requires.1 is c.args.context
-    (releases (told_stored c.requires.1 is) c.one-in-HexBegin.ensures (alone-read c.args.held.place 1 _) (omega arith))
+returns-in-Octothorpe c = elim c.in-Octothorpe.is [
+  | inl is ↦ told_releases c.requires is c.args.context
+      (releases (told_stored c.requires is) c.one-in-Octothorpe.ensures (alone-read c.args.held.place 1 _) (omega arith))
+  | inr is ↦ told_releases c.requires is c.args.context
+      (releases (told_stored c.requires is) c.one-in-Octothorpe.ensures (alone-read c.args.held.place 1 _) (omega arith))
+]
 
 pub returns-in-Numeric : goal.returns-in-Numeric
 unfolding st_by store_of finish
 returns-in-Numeric c =
     let is = c.in-Numeric.is in
-    let stored = told_stored c.requires.1 is in
+    let stored = told_stored c.requires is in
     let meant = c.finish_numeric-meant.ensures in
-    told_releases c.requires.1 is c.args.context
-    (releases stored c.one-in-Numeric.ensures (number_open stored _ (meant.0 ∙ ap (λ (n : ℕ). (meaning_of n).char) (number_fits c.requires.1 is).1)
-    (meant.1 ∙ ap (λ (n : ℕ). (meaning_of n).code) (number_fits c.requires.1 is).1)) (omega (arith, stored.count_is)))
+    told_releases c.requires is c.args.context
+    (releases stored c.one-in-Numeric.ensures (number_open stored _ (meant.0 ∙ ap (λ (n : ℕ). (meaning_of n).char) (number_fits c.requires is).1)
+    (meant.1 ∙ ap (λ (n : ℕ). (meaning_of n).code) (number_fits c.requires is).1)) (omega (arith, stored.count_is)))
 
 pub returns-in-Named : goal.returns-in-Named
 unfolding st_by store_of Fits
 returns-in-Named c =
     let is = c.in-Named.is in
-    let stored = told_stored c.requires.1 is in
-    let fits = told_fits c.requires.1 is in
+    let stored = told_stored c.requires is in
+    let fits = told_fits c.requires is in
     let part = name-part c.args.held.count c.args.held.store (omega (arith, stored.count_is)) in
-    let found = found_read c.requires.0 part refl in
-    told_releases c.requires.1 is c.args.context
+    told_releases c.requires is c.args.context
     (name-finish c.args.context c.named.result stored fits.0 fits.1
-    (c.named.ensures ∙ (λ i. named_by c.args.context (found i) (part i))))
+    (c.named.ensures ∙ ap (λ (h : List ℕ). named_by c.args.context (longest builtin h) h) part))
 
 pub returns-in_default : goal.returns-in_default
 unfolding encodes placed
 returns-in_default c =
-    releases (held-stored (st_of c.args.held) c.requires.1.whole) c.none.ensures
+    releases (held-stored (st_of c.args.held) c.requires.whole) c.none.ensures
     (others c.args.context c.args.held.state _ _ c.in_default.not-Begin c.in_default.not-Octothorpe c.in_default.not-HexBegin
     c.in_default.not-Numeric c.in_default.not-Named) (omega arith)

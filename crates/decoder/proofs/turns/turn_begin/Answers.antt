@@ -17,12 +17,12 @@ pub returns-then-b-eq35 : goal.returns-then-b-eq35
 unfolding store_of mark_of kind_of
 returns-then-b-eq35 c =
     rw (ascii_is 0x23 (omega arith) c.args.c c.ascii-b.ensures c.if-b-eq35.true)
-    (turns_absorbed c.requires.1 c.args.p (Octothorpe c.args.held.place) c.absorbed.ensures refl
-    (hold_is c.requires.1 (Octothorpe c.args.held.place) _ c.hold.ensures (omega arith) (rw c.if-b-eq35.true)))
+    (turns_absorbed c.requires c.args.p (Octothorpe c.args.held.place) c.absorbed.ensures refl
+    (hold_is c.requires (Octothorpe c.args.held.place) _ c.hold.ensures (omega arith) (rw c.if-b-eq35.true)))
 
 pub turn_named-requires : goal.turn_named-requires
 turn_named-requires c =
-    (c.requires.0, begin-name c.requires.1 (ascii_letter c.args.c c.ascii-b.ensures c.alphanumeric.ensures c.if-alphanumeric.true))
+    begin-name c.requires (ascii_letter c.args.c c.ascii-b.ensures c.alphanumeric.ensures c.if-alphanumeric.true)
 
 pub returns-then-alphanumeric : goal.returns-then-alphanumeric
 returns-then-alphanumeric c =
@@ -33,7 +33,7 @@ returns-then-alphanumeric c =
     (subst
     (λ (h : List ℕ). Turns c.args.held c.args.p c.turn_named.result
     (step_named builtin c.args.context c.args.held.place h c.args.p c.args.c (encode c.args.c)))
-    (ap (drop 1) (stored_bytes c.requires.1)) c.turn_named.ensures)
+    (ap (drop 1) (stored_bytes c.requires)) c.turn_named.ensures)
 
 pub returns : goal.returns
 unfolding placed
@@ -43,4 +43,4 @@ returns c =
       ascii_not 0x23 (omega arith) c.args.c is c.if-b-eq35.false,
       ascii_letter c.args.c is c.alphanumeric.ensures c.if-alphanumeric.false,
     )
-    (turns c.requires.1 c.turn_data.ensures c.one.ensures (alone-read c.args.held.place 0 []) (omega arith))
+    (turns c.requires c.turn_data.ensures c.one.ensures (alone-read c.args.held.place 0 []) (omega arith))

@@ -9,24 +9,24 @@ use Rattle.decoder.proofs.whole.decode_next.Goals as goal
 pub returns-then-from-s : goal.returns-then-from-s
 returns-then-from-s c =
     let run = c.copy_run-run.ensures in
-    advances_run run.0 run.1 c.args.errors.now c.args.e (omega (arith, c.requires.2))
+    advances_run run.0 run.1 c.args.errors.now c.args.ends.errors (omega (arith, c.requires.1))
 
-pub overflow_add-after : goal.overflow_add-after
-overflow_add-after c =
+pub overflow_add-result : goal.overflow_add-result
+overflow_add-result c =
     let run = c.copy_run-run in
     let q = c.piece_at-piece in
     let more : run.result.at < length c.args.s.now = omega (arith, run.ensures.0.there) in
-    omega (arith, c.requires.1, (piece_there c.args.context c.args.s.now run.result.at q.result c.requires.0 q.ensures more).1)
+    omega (arith, c.requires.0, (piece_there c.args.context c.args.s.now run.result.at q.result q.ensures more).1)
 
-pub put_piece-next-requires : goal.put_piece-next-requires
-put_piece-next-requires c =
+pub put_piece-requires : goal.put_piece-requires
+put_piece-requires c =
     let run = c.copy_run-run.ensures in
-    (omega (arith, c.requires.3, run_length run.0, run.1.next_is, put_length run.1), omega (arith, c.requires.4))
+    (omega (arith, c.requires.2, run_length run.0, run.1.next_is, put_length run.1), omega (arith, c.requires.3))
 
 pub returns : goal.returns
 returns c =
     let run = c.copy_run-run in
     let q = c.piece_at-piece in
-    let p = c.put_piece-next.ensures in
+    let p = c.put_piece.ensures in
     let more : run.result.at < length c.args.s.now = omega (arith, run.ensures.0.there, c.if-from-s.false) in
-    advances_piece run.ensures.0 run.ensures.1 q.result c.requires.0 q.ensures more p.0 p.2
+    advances_piece run.ensures.0 run.ensures.1 q.result q.ensures more p.0 p.2

@@ -1,31 +1,14 @@
+use Prim.Native.Nat.{ℕ, ◌/◌}
+use mathlib.Core.Path.{◌≡◌, subst}
 use native.Mathlib.Omega.{arith}
-use lib.ListN.{length, length-take}
-use Rattle.lists.proofs.Layings.{laid-plainly}
-use Rattle.decoder.proofs.Answering.{part_fits, whole_read, whole_unread}
+use lib.ListN.{length}
+use Rattle.lists.specs.Bytes.{plainly}
+use Rattle.decoder.specs.Whole.{DecodesBy}
 use Rattle.decoder.proofs.whole.decode_whole.Goals as goal
-
-pub returns-then-not-readable : goal.returns-then-not-readable
-returns-then-not-readable c =
-    let a = c.args in
-    whole_unread (length a.errors.now) a.context a.source.now a.text.now a.errors.now c.unread-stop.ensures laid-plainly
-    c.if-not-readable.true
-
-pub slice_bounds-read_covered-end : goal.slice_bounds-read_covered-end
-slice_bounds-read_covered-end c =
-    let a = c.args in
-    let f = part_fits (length a.errors.now) a.context a.source.now a.text.now a.errors.now c.unread-stop.ensures
-    c.if-not-readable.false in
-    simp length-take (omega (arith, f))
-
-pub read_covered-requires : goal.read_covered-requires
-read_covered-requires c =
-    let a = c.args in
-    let f = part_fits (length a.errors.now) a.context a.source.now a.text.now a.errors.now c.unread-stop.ensures
-    c.if-not-readable.false in
-    simp length-take (omega (arith, f), omega (arith, f), omega (arith, f))
 
 pub returns : goal.returns
 returns c =
     let a = c.args in
-    whole_read (length a.errors.now) a.context a.source.now a.text.now a.errors.now c.unread-stop.ensures
-    c.if-not-readable.false c.read_covered.ensures
+    let words : length a.errors.now / 1 ≡ length a.errors.now = omega arith in
+    subst (λ (room : ℕ). DecodesBy plainly room a.context a.source.now a.text.now a.errors.now c.decode.result c.decode.new.text c.decode.new.errors)
+    words c.decode.ensures

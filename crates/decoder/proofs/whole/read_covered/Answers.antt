@@ -1,20 +1,23 @@
+use Prim.Native.Nat.{ℕ, ◌/◌}
+use mathlib.Core.Path.{◌∙◌, ap}
 use native.Mathlib.Omega.{arith}
-use Rattle.lists.proofs.Layings.{laid-plainly}
 use Rattle.decoder.proofs.Answering.{reads_of, wrote-few}
 use Rattle.decoder.proofs.whole.read_covered.Goals as goal
 
 pub overflow_cast-result : goal.overflow_cast-result
-overflow_cast-result c =
-    omega (arith, wrote-few laid-plainly c.args.context c.args.s.now c.requires.0 c.decode_pieces-written.ensures)
+overflow_cast-result g c =
+    omega (arith, wrote-few g.met.T.Laid.laying g.met.T.Laid.some c.args.context c.args.s.now c.requires.0 c.decode_pieces-ends.ensures)
 
 pub overflow_cast-result-2 : goal.overflow_cast-result-2
-overflow_cast-result-2 c =
-    omega (arith, wrote-few laid-plainly c.args.context c.args.s.now c.requires.0 c.decode_pieces-written.ensures)
+overflow_cast-result-2 g c =
+    let few = wrote-few g.met.T.Laid.laying g.met.T.Laid.some c.args.context c.args.s.now c.requires.0 c.decode_pieces-ends.ensures in
+    rw c.EACH.ensures (omega (arith, few.1, few.2))
 
 pub end_named-requires : goal.end_named-requires
-end_named-requires c = c.requires.0
+end_named-requires g c = c.requires.0
 
 pub returns : goal.returns
-returns c =
-    let w = c.decode_pieces-written.ensures in
-    reads_of _ (omega (arith, wrote-few laid-plainly c.args.context c.args.s.now c.requires.0 w)) c.end_named.ensures w
+returns g c =
+    let w = c.decode_pieces-ends.ensures in
+    let few = wrote-few g.met.T.Laid.laying g.met.T.Laid.some c.args.context c.args.s.now c.requires.0 w in
+    reads_of _ (ap (λ (each : ℕ). c.decode_pieces-ends.result.errors / each / 2) c.EACH.ensures ∙ few.1) c.end_named.ensures w

@@ -4,8 +4,8 @@ use lib.ListN.{length}
 use Rattle.escaper.proofs.Written.{Written}
 use Rattle.escaper.proofs.results.write_escaped.Given as goal
 
-abbrev pub invariant-loop-mode : goal.invariant-loop-mode
-invariant-loop-mode l = Written l.mode l.s l.initial.out l.at l.out l.next
+abbrev pub invariant-loop-at : goal.invariant-loop-at
+invariant-loop-at l = Written l.mode l.s l.initial.out l.at l.out l.next
 
-abbrev pub decreases-loop-mode : goal.decreases-loop-mode
-decreases-loop-mode l = length l.s - l.at
+abbrev pub decreases-loop-at : goal.decreases-loop-at
+decreases-loop-at l = length l.s - l.at

@@ -1,5 +1,5 @@
 use Prim.Native.Nat.{ℕ}
-use mathlib.Core.Path.{refl, ap}
+use mathlib.Core.Path.{refl, sym, ap}
 use native.Mathlib.Omega.{arith}
 use lib.ListN.{length}
 use borrow.Author.Tests.{lt-ltb, ltb-true}
@@ -35,7 +35,7 @@ loop-at-smaller-then-s-at-lt128 c =
 pub returns-in_default : goal.returns-in_default
 returns-in_default c =
     let l = c.loop-at.invariant in
-    let w = turn_other l (omega arith) c.read_char.ensures c.in_default.not-Char in (w.0, w.1, l.there)
+    let w = turn_other l (omega arith) c.read_char.ensures c.in_default.not-Char in (sym w.0, w.1, l.there)
 
 pub loop-at-preserved : goal.loop-at-preserved
 loop-at-preserved c =
@@ -57,4 +57,4 @@ loop-at-smaller c =
 pub returns : goal.returns
 returns c =
     let l = c.loop-at.invariant in
-    let w = stop_is done _ (looking_end l (omega arith)) in (w.0, w.1, l.there)
+    sym (stop_is done _ (looking_end l (omega arith))).0

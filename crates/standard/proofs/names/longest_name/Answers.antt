@@ -1,41 +1,28 @@
-use Prim.Native.Nat.{◌+◌}
-use mathlib.Core.Path.{refl, sym, ◌∙◌, ap}
-use native.Mathlib.Omega.{arith}
-use lib.ListN.{drop, get_or}
+use Prim.Native.Nat.{ℕ}
+use mathlib.Core.Path.{sym, ◌∙◌, ap}
+use mathlib.Core.List.{List}
 use Rattle.standard.specs.declared.names.Found.{Found}
-use Rattle.standard.specs.Names.{longest_from, longest, records}
-use Rattle.standard.proofs.Lookup.{records_end, records_cut, records_more, longest-end, longest-more}
+use Rattle.standard.specs.declared.records.Records.{Records}
+use Rattle.standard.specs.Names.{Name, found_of, found_where, longest_from, longest, records}
+use Rattle.standard.proofs.Lookup.{found_back, longest-end, longest-more}
 use Rattle.standard.proofs.names.longest_name.Goals as goal
 
-pub loop-at-init : goal.loop-at-init
+pub loop-record-init : goal.loop-record-init
 unfolding longest
-loop-at-init c = (refl, omega arith)
+loop-record-init c =
+    let all = ap (λ (r : Records). r.rest.now) c.into_iter-record-iterator.ensures.into_iter_gives ∙ c.of-record-items.ensures in
+    (tt, tt, ap (λ (t : List ℕ). longest (records t) c.args.s.now) (sym all), tt)
 
-pub overflow_cast-n : goal.overflow_cast-n
-overflow_cast-n c = omega (arith, c.type_inv.table c.loop-at.at)
-
-pub overflow_add-n : goal.overflow_add-n
-overflow_add-n c = omega (arith, c.type_inv.table c.loop-at.at)
-
-pub returns-then-table-key : goal.returns-then-table-key
-returns-then-table-key c =
-    let a = c.args in
-    let l = c.loop-at in
-    sym (l.invariant.0 ∙ rw (records_cut a.table.now l.at (omega arith) (omega arith)) (longest-end _ _))
-
-pub loop-at-preserved : goal.loop-at-preserved
-loop-at-preserved c =
-    let a = c.args in
-    let l = c.loop-at in (
-      l.invariant.0
-          ∙ rw (records_more a.table.now l.at (omega arith) (omega arith)) (longest-more _ _ _ _)
-          ∙ ap (λ (f : Found). longest_from f (records (drop (l.at + 1 + get_or a.table.now l.at 0 + 8) a.table.now)) a.s.now)
-          (sym c.longer_of-found.ensures),
-      omega arith,
-    )
+pub loop-record-preserved : goal.loop-record-preserved
+loop-record-preserved c =
+    let l = c.loop-record in
+    let s = c.args.s.now in
+    let steps = ap (λ (names : List Name). longest_from (found_of l.found) names s) c.in-Some.ensures.steps in
+    let longer = ap (λ (f : Found). longest_from f (records c.next.new.self.rest.now) s) (sym c.longer_of-found.ensures.longer) in
+    (tt, tt, l.invariant.2 ∙ steps ∙ longest-more _ _ _ _ ∙ longer, c.longer_of-found.ensures.some)
 
 pub returns : goal.returns
 returns c =
-    let a = c.args in
-    let l = c.loop-at in
-    sym (l.invariant.0 ∙ rw (records_end a.table.now l.at (omega arith)) (longest-end _ _))
+    let l = c.loop-record in
+    let none = ap (λ (names : List Name). longest_from (found_of l.found) names c.args.s.now) c.in-None.ensures.steps.0 in
+    found_back l.found l.invariant.3 ∙ ap found_where (sym (l.invariant.2 ∙ none ∙ longest-end _ _))

@@ -1,6 +1,5 @@
 use mathlib.Core.Path.{refl}
 use native.Mathlib.Omega.{arith}
-use borrow.Author.Rules.{rules}
 use Rattle.decoder.proofs.Returns.{
   opened,
   cleared_open,
@@ -14,26 +13,25 @@ use Rattle.decoder.proofs.Returns.{
 }
 use Rattle.decoder.proofs.stream.Stream.feed.Goals as goal
 
-pub returns-then-answer-ne0 : goal.returns-then-answer-ne0
-returns-then-answer-ne0 c =
-    feeds-nothing (feed_refused _ _ _ _ c.refusal-answer.ensures _ refl c.if-answer-ne0.true) c.refused.ensures
+pub returns-in-Some : goal.returns-in-Some
+returns-in-Some c = feeds-nothing (feed_refused _ _ _ _ c.refusal.ensures c.in-Some.is _ refl) c.refused.ensures
 
 pub cleared_record-requires : goal.cleared_record-requires
 cleared_record-requires c =
-    let goes_on = not_refused _ _ _ _ c.refusal-answer.ensures c.if-answer-ne0.false in
+    let goes_on = not_refused _ _ _ _ c.refusal.ensures c.in_default.is in
     goes_on.stands_open
 
 pub walk-walked-requires : goal.walk-walked-requires
 walk-walked-requires c =
-    let goes_on = not_refused _ _ _ _ c.refusal-answer.ensures c.if-answer-ne0.false in
+    let goes_on = not_refused _ _ _ _ c.refusal.ensures c.in_default.is in
     let r = c.args.self in
     let p = opened r goes_on.stands_open in
     let is = c.cleared_record.ensures in
-    (search rules, cleared_open r p is, omega (arith, cleared_taken r p is, goes_on.within))
+    (cleared_open r p is, omega (arith, cleared_taken r p is, goes_on.within))
 
 pub walked_to-requires : goal.walked_to-requires
 walked_to-requires c =
-    let goes_on = not_refused _ _ _ _ c.refusal-answer.ensures c.if-answer-ne0.false in
+    let goes_on = not_refused _ _ _ _ c.refusal.ensures c.in_default.is in
     let r = c.args.self in
     let a = goes_on in
     let b = c.walk-walked.ensures.1 in (
@@ -45,7 +43,7 @@ walked_to-requires c =
 
 pub returns : goal.returns
 returns c =
-    let goes_on = not_refused _ _ _ _ c.refusal-answer.ensures c.if-answer-ne0.false in
+    let goes_on = not_refused _ _ _ _ c.refusal.ensures c.in_default.is in
     let a = c.args in
     let k = goes_on in
     rw (feed_walks _ _ _ k.stands_open _ k.short k.within k.text_room k.errors_room)

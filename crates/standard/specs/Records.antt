@@ -1,0 +1,8 @@
+-- A record of a table, as the code holds it.
+use Rattle.lists.specs.Bytes.{word32}
+use Rattle.standard.specs.declared.records.Record.{Record}
+use Rattle.standard.specs.Names.{Name, name}
+
+-- The name of a record.
+abbrev pub name_of : Record → Name
+name_of r = name r.word.now (word32 r.chars.now 0) (word32 r.chars.now 4)
