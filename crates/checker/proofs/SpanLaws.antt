@@ -36,11 +36,15 @@ each-join p n m first later i h =
 part : (s : List ℕ) (i k j : ℕ) → j < k → get_or (take k (drop i s)) j 0 ≡ get_or s (i + j) 0
 part s i k j h = get_or-take k (drop i s) j 0 h ∙ get_or-drop i s j 0
 
--- Bytes of which i are ordinary, and the first n of a part after them.
-pub ordinary_on : (end : ℕ) (s : List ℕ) (i k n : ℕ) → n ≤ k → Ordinary end s i → Ordinary end (take k (drop i s)) n → Ordinary end s (i + n)
-ordinary_on end s i k n h first later =
+-- Bytes of which i are ordinary, and the first n of the rest after them.
+pub ordinary_on : (end : ℕ) (s : List ℕ) (i n : ℕ) {rest : List ℕ} → rest ≡ drop i s → Ordinary end s i → Ordinary end rest n → Ordinary end s (i + n)
+ordinary_on end s i n is first later =
     each-join (ordinary_at end s) i n first
-    (λ j m. sym (ap (ordinary end) (part s i k j (omega arith))) ∙ later j m)
+    (λ j m. sym (ap (ordinary end) (ap (λ (r : List ℕ). get_or r j 0) is ∙ get_or-drop i s j 0)) ∙ later j m)
+
+-- Where the first of a block of them are, so many of the rest are.
+pub ordinary_first : (end : ℕ) (rest : List ℕ) (n : ℕ) {block : List ℕ} → block ≡ take n rest → Ordinary end block n → Ordinary end rest n
+ordinary_first end rest n is all = λ j m. ap (ordinary end) (sym (ap (λ (r : List ℕ). get_or r j 0) is ∙ get_or-take n rest j 0 m)) ∙ all j m
 
 -- Bytes of which i are alike, and the first n of parts after them.
 pub alike_on : (s text : List ℕ) (i k m n : ℕ) → n ≤ k → n ≤ m → Alike s text i → Alike (take k (drop i s)) (take m (drop i text)) n

@@ -20,6 +20,7 @@ fn unit_rows<N: Numbers>(rows: N, first: usize) -> bool
     ensures { result ≡ true → UnitRows (N.list rows) first 32 }
 {
     let mut all = true;
+    // By an index: `Numbers` has the number at a place, and no iterator.
     for i in 0..32usize {
         all &= unit(row_at(rows, first + 3 * i));
     }
@@ -41,6 +42,7 @@ pub(crate) fn plain_rows<N: Numbers>(
     let source = &covered[from.source..];
     let text = &transcript.text[from.text..];
     let numbers = transcript.rows.count() - first;
+    // By one count: rows, source and text go on by it alike.
     let mut i: usize = 0;
     while (96 <= numbers - 3 * i) && (32 <= source.len() - i) && (32 <= text.len() - i) {
         if !unit_rows(transcript.rows, first + 3 * i) {

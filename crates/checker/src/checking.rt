@@ -11,7 +11,7 @@ use crate::verdicts::judge;
 use standard::Context;
 use standard::table::builtin_table;
 
-// The answer; with 0 the verdict, 0 or a reason from 1 to 5 for a to e, and the row; with 1 and 2 the place.
+// The answer, by document 01's number; with 0 the verdict, 0 or a reason from 1 to 5 for a to e, and the row; with 1 and 2 the place.
 #[derive(Clone, Copy, PartialEq, Eq, Debug)]
 pub struct Checked {
     pub answer: u32,

@@ -1,4 +1,4 @@
-// Bytes and characters, by document 01's lists.
+// Bytes and characters, by document 01's lists. The decoder has its own: the two share nothing but `standard`.
 ghost use Rattle.std.specs.Prelude.{◌≡◌, drop};
 ghost use Rattle.lists.specs.Notation.{next};
 ghost use Rattle.standard.specs.Classes as standard;

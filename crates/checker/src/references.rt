@@ -1,4 +1,4 @@
-// Numbers of references: their digits, and what they mean by document 01's lists.
+// Numbers of references: their digits, and what they mean by document 01's lists. The decoder has its own.
 ghost use Rattle.std.specs.Prelude.{◌≡◌, ◌≤◌, ◌+◌, ◌*◌, min, length, drop};
 ghost use Rattle.lists.specs.Notation.{front};
 ghost use Rattle.standard.specs.Numbers.{is_digit, number, replacements, replaced_by, meaning_of};

@@ -58,6 +58,7 @@ fn meet_pieces<N: Numbers>(
     let mut at = from.source;
     let mut text = Some(from.text);
     let mut errors = Some(from.errors);
+    // A `while` and no `for`: each turn goes on by a run or a piece.
     while at < end {
         if let Some(t) = text {
             let run = alike_front(&covered[at..end], &transcript.text[t..]);

@@ -36,14 +36,14 @@ pub(crate) fn ordinary_front(s: &[u8], end: u8) -> usize
     ensures within { result ≤ length s.now }
     ensures each { spec.Ordinary end s.now result }
 {
-    let mut i: usize = 0;
-    while 64 <= s.len() - i {
-        if !ordinary_block(&s[i..i + 64], end) {
+    let mut rest = s;
+    while let Some((block, after)) = rest.split_first_chunk::<64>() {
+        if !ordinary_block(block, end) {
             break;
         }
-        i += 64;
+        rest = after;
     }
-    i + ordinary_bytes(&s[i..], end)
+    s.len() - rest.len() + ordinary_bytes(rest, end)
 }
 
 // A byte that is a piece and its own text, without an error, and is the byte c too.
@@ -87,6 +87,7 @@ fn alike_blocks(source: &[u8], text: &[u8]) -> usize
     ensures each { spec.Alike source.now text.now result }
 {
     let end = source.len().min(text.len());
+    // By one count: both go on by it alike.
     let mut i: usize = 0;
     while 32 <= end - i {
         if !alike_block(&source[i..i + 32], &text[i..i + 32]) {

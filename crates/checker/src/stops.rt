@@ -32,6 +32,7 @@ pub(crate) fn find_stop(context: Context, s: &[u8]) -> Result<usize, Fault>
 {
     let end = end_of(context);
     let mut at: usize = 0;
+    // A `loop` and no `for`: each turn goes on by a run and a character.
     loop {
         at += ordinary_front(&s[at..], end);
         if at == s.len() {

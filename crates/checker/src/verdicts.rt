@@ -29,6 +29,7 @@ pub(crate) fn judge<N: Numbers>(source: &Source, transcript: &Transcript<N>) -> 
         text: 0,
         errors: 0,
     };
+    // A `loop` and no `for`: each turn goes on by as many rows as are plain, and by up to 32 more.
     'all: loop {
         let plain = plain_rows(source.covered, transcript, places, 3 * row);
         row += plain;
@@ -39,6 +40,7 @@ pub(crate) fn judge<N: Numbers>(source: &Source, transcript: &Transcript<N>) -> 
         }
         // So many rows are judged singly before the next look for blocks, so that no row is looked at in two blocks.
         let until = rows.min(row + 32);
+        // A `while` and no `for`: the row is counted on from here to the next block.
         'singly: while row < until {
             match judge_row(source, transcript, places, row_at(transcript.rows, 3 * row)) {
                 Ok(end) => places = end,

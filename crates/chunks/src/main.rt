@@ -44,6 +44,7 @@ fn feed_all<W: Write>(output: &mut W, mut stream: Stream, chunk: &[u8]) -> io::R
     let mut text = [0; TEXT_ROOM];
     let mut errors = [0; NUMBERS_ROOM];
     let mut rest = chunk;
+    // A `loop` and no `chunks`: how much is taken is the stream's answer.
     loop {
         let fed = stream.feed(rest, &mut text, &mut errors);
         show(output, fed, &text, &errors)?;
@@ -71,6 +72,7 @@ fn decode<R: Read, W: Write>(
     mut stream: Stream,
 ) -> io::Result<Fed> {
     let mut chunk = [0; CHUNK];
+    // A `loop`: each call is handed the record of the one before, and the last answer ends it.
     loop {
         let count = read_full(reader, &mut chunk)?;
         if count == 0 {

@@ -1,62 +1,31 @@
 -- A named reference as the decoder's piece, and what its readers see.
 use Rattle.std.specs.Prelude.{if◌then◌else◌}
-use Prim.Native.Nat.{ℕ, ◌+◌, ◌-◌, ◌≤◌, ◌<◌}
+use Prim.Native.Nat.{ℕ, zero, suc, ◌+◌, ◌-◌, ◌≤◌, ◌<◌}
 use Prim.Native.Char.{code}
-use mathlib.Core.Path.{◌≡◌, sym, ◌∙◌}
+use mathlib.Core.Path.{◌≡◌, refl, sym, ◌∙◌, ap}
 use mathlib.Core.List.{List, [], ◌∷◌}
-use mathlib.Core.Bool.{Bool, true, false, ◌&&◌, and-true, and-false}
+use mathlib.Core.Bool.{Bool, true, false}
 use mathlib.Core.Logic.{◌≢◌}
 use native.Mathlib.Omega.{arith}
 use native.Mathlib.Numerals.{add-one}
-use lib.Dec.{ltb}
 use lib.ListN.{length, get_or, drop}
-use lib.Seq.{drop-cons}
-use borrow.Author.Tests.{ne_eqb}
-use Rattle.lists.specs.Notation.{next}
-use Rattle.lists.proofs.Fronts.{FrontEmpty, Skipping, stopped_at, stopped_end, skipped}
-use Rattle.lists.proofs.Nexts.{next_at, next_none}
+use Rattle.lists.specs.Notation.{front}
 use Rattle.standard.specs.declared.Context.{Context}
-use Rattle.standard.specs.declared.Context.TheVariants.{Attribute}
 use Rattle.standard.specs.declared.names.Found.{Found}
-use Rattle.standard.specs.Classes.{alphanumeric}
 use Rattle.standard.specs.Pieces.{piece, char_ref_text, unknown_name, named_by, stays_text}
-use Rattle.standard.proofs.FrontPiece.{unknown-at, by_none, by_closed, by_staying, by_open}
+use Rattle.standard.proofs.FrontPiece.{by_none, by_closed, by_staying, by_open}
 use Rattle.decoder.specs.Pieces.{piece_of, one_of}
 use Rattle.decoder.proofs.PieceLaws.{alone}
 
--- Letters and digits at the front of s, which end where those from `at` on do.
-module _ (s : List ℕ) (at : ℕ) (passed : Skipping alphanumeric s 0 at) where
-  -- Where they end, the byte after them tells.
-  unknown_there : FrontEmpty alphanumeric s at → unknown_name s ≡ ltb 0 at && next (code ";") (drop at s)
-  unknown_there stop = unknown-at s at (omega (arith, skipped passed stop))
-
-  -- They end with the bytes.
-  pub unknown_end : length s ≤ at → false ≡ unknown_name s
-  unknown_end end = rw (unknown_there (stopped_end end), next_none _ s at end, and-false)
-
-  module _ (there : at < length s) (other : alphanumeric (get_or s at 0) ≡ false) where
-    -- They end at a `;`.
-    pub unknown_closed : get_or s at 0 ≡ code ";" → ltb 0 at ≡ unknown_name s
-    unknown_closed e = rw (unknown_there (stopped_at there other), next_at _ s at there, e, and-true)
-
-    -- They end at another byte.
-    pub unknown_other : get_or s at 0 ≢ code ";" → false ≡ unknown_name s
-    unknown_other e = rw (unknown_there (stopped_at there other), next_at _ s at there, ne_eqb _ _ e, and-false)
-
--- Whether a name without `;` stays text, in an attribute.
-module _ (s : List ℕ) (at : ℕ) where
-  -- Not at the end of the bytes.
-  pub stays_end : length s ≤ at → false ≡ stays_text Attribute (drop at s)
-  stays_end end = sym (next_none _ s at end)
-
-  module _ (there : at < length s) where
-    -- Before a `=`.
-    pub stays_equals : get_or s at 0 ≡ code "=" → true ≡ stays_text Attribute (drop at s)
-    stays_equals e = rw (drop-cons s at 0 there, e)
-
-    -- Before another byte, where that is a letter or a digit.
-    pub stays_other : get_or s at 0 ≢ code "=" → alphanumeric (get_or s at 0) ≡ stays_text Attribute (drop at s)
-    stays_other e = rw (drop-cons s at 0 there, ne_eqb _ _ e)
+-- Where the first n elements pass, and the one after them doesn't, they are the front.
+pub front_ends : (p : ℕ → Bool) (l : List ℕ) (n : ℕ) → n ≤ length l → ((i : ℕ) → i < n → p (get_or l i 0) ≡ true)
+    → (n < length l → p (get_or l n 0) ≡ false) → n ≡ length (front p l)
+unfolding front
+front_ends p [] zero h each end = refl
+front_ends p [] (suc n) h each end = absurd (omega arith)
+front_ends p (b ∷ l) zero h each end = rw (end (omega arith)) refl
+front_ends p (b ∷ l) (suc n) h each end =
+    rw (each 0 (omega arith)) (ap suc (front_ends p l n (omega arith) (λ i k. each (suc i) (omega arith)) (λ k. end (omega arith))))
 
 -- What stands after an `&`, by the longest name that is found there.
 module _ (context : Context) (found : Found) (s : List ℕ) where

@@ -1,16 +1,16 @@
 -- Open records: a store that is what its state says, the states within the limits, and the record of such a state.
 use Rattle.std.specs.Prelude.{if◌then◌else◌}
-use Prim.Native.Nat.{ℕ, zero, suc, ◌+◌, ◌-◌, ◌≤◌, ◌<◌, min}
+use Prim.Native.Nat.{ℕ, suc, ◌+◌, ◌-◌, ◌≤◌, ◌<◌, min}
 use Prim.Native.Char.{code}
 use mathlib.Core.Path.{◌≡◌, refl, sym, ◌∙◌, ap, ap₂, subst}
 use mathlib.Core.List.{List, [], ◌∷◌, ◌++◌}
-use mathlib.Core.Bool.{Bool, true, false, not, ◌||◌, ◌&&◌, and-true, and-false}
+use mathlib.Core.Bool.{Bool, true, false, not, ◌&&◌, and-true, and-false}
 use mathlib.Core.Logic.{inl, inr, ⊎_elim}
 use native.Mathlib.Omega.{arith}
 use lib.Dec.{ltb, eqb, eqb-suc-suc}
 use lib.Pointwise.{pointwise}
-use lib.ListN.{length, get_or, take, drop, replicate, length-take, length-append}
-use lib.Seq.{length-take-le, take-suc, take_all, take-append_seam, get_or-take}
+use lib.ListN.{length, get_or, take, drop, replicate, length-append}
+use lib.Seq.{take-suc, take_all, take-append_seam}
 use borrow.Author.Tests.{eq-eqb, eqb-true, ltb-true, lt-ltb, le-leb, ne_eqb}
 use Rattle.lists.proofs.Choice as choice
 use Rattle.lists.proofs.Choice.{no_way, or_true, length_none}
@@ -46,52 +46,6 @@ use Rattle.decoder.specs.Stream.{
 }
 use Rattle.decoder.specs.Turns.{Fits, Fit}
 use Rattle.decoder.proofs.Tidy.{tidy_rest, Alphanumerics, builtin_tidy, begins-some, tidy_name, closed-length}
-
--- Elements from i on are those of a word.
-abbrev spells : List ℕ → ℕ → List ℕ → Bool
-spells s i [] = true
-spells s i (a ∷ word) = eqb (get_or s i 0) a && spells s (suc i) word
-
--- An element before them counts one more.
-spells-on : (b : ℕ) (s : List ℕ) (i : ℕ) (word : List ℕ) → spells (b ∷ s) (suc i) word ≡ spells s i word
-spells-on b s i [] = refl
-spells-on b s i (a ∷ word) = ap (λ (t : Bool). eqb (get_or s i 0) a && t) (spells-on b s (suc i) word)
-
--- As many first elements as a word has stand at its front exactly if they are the word's.
-stands_spells : (s word : List ℕ) → length word ≤ length s → stands (take (length word) s) word ≡ spells s 0 word
-unfolding stands
-stands_spells s [] h = refl
-stands_spells [] (a ∷ word) h = absurd (omega arith)
-stands_spells (b ∷ s) (a ∷ word) h =
-    ap (λ (t : Bool). eqb b a && t) (stands_spells s word (omega arith) ∙ sym (spells-on b s 0 word))
-
--- The first k elements are a word exactly if k is its length and they are the word's.
-pub same-spells : (k : ℕ) (s word : List ℕ) → k ≤ length s → same (take k s) word ≡ eqb k (length word) && spells s 0 word
-same-spells k s word h = rw (let e : length (take k s) ≡ k = simp length-take (omega arith) in e) (go (eqb k (length word)) refl)
-  where
-    go : (t : Bool) → eqb k (length word) ≡ t → t && stands (take k s) word ≡ t && spells s 0 word
-    go false e = refl
-    go true e =
-        let is = eqb-true k (length word) e in
-        ap (λ (n : ℕ). stands (take n s) word) is ∙ stands_spells s word (omega arith)
-
--- They are `&#x` or `&#X` exactly if they are three, with these.
-pub hex_spells : (k : ℕ) (s : List ℕ) → k ≤ length s
-    → is_hex_intro (take k s) ≡ eqb k 3 && (eqb (get_or s 0 0) (code "&") && (eqb (get_or s 1 0) (code "#") && is_x (get_or s 2 0)))
-hex_spells k s h =
-    rw (same-spells k s (code "&" ∷ code "#" ∷ code "x" ∷ []) h, same-spells k s (code "&" ∷ code "#" ∷ code "X" ∷ []) h)
-    (rw (and-true (eqb (get_or s 2 0) (code "x")), and-true (eqb (get_or s 2 0) (code "X")))
-    (go (eqb k 3) (eqb (get_or s 0 0) (code "&")) (eqb (get_or s 1 0) (code "#")) (eqb (get_or s 2 0) (code "x")) (eqb (get_or s 2 0) (code "X"))))
-  where
-    go : (a b d x y : Bool) → (a && (b && (d && x)) || a && (b && (d && y))) ≡ a && (b && (d && (x || y)))
-    go false b d x y = refl
-    go true false d x y = refl
-    go true true false x y = refl
-    go true true true x y = refl
-
--- None of some elements are taken exactly if their count is 0.
-pub none-taken : (k : ℕ) (s : List ℕ) → k ≤ length s → eqb k 0 ≡ eqb (length (take k s)) 0
-none-taken k s h = ap (λ (n : ℕ). eqb n 0) (sym (length-take-le k s h))
 
 -- Lists that are the same by the test are equal.
 same_equal : (s t : List ℕ) → same s t ≡ true → s ≡ t
@@ -170,27 +124,16 @@ pointwise-same (a ∷ s) (b ∷ t) = rw (pointwise-same s t, eqb-suc-suc (length
     swap false true r = refl
     swap false false r = refl
 
--- A store of fewer than two bytes has no name.
-pub name_none : (k : ℕ) (s : List ℕ) → k < 2 → is_name_store builtin (take k s) ≡ false
-name_none zero s h = refl
-name_none (suc k) [] h = refl
-name_none (suc zero) (c ∷ s) h = rw (and-false (eqb c (code "&")))
-name_none (suc (suc k)) (c ∷ s) h = absurd (omega arith)
-
--- A longer one has a name exactly if `&` stands first, then a beginning of some name, and its last byte is no `;`.
-pub name-some : (k : ℕ) (s : List ℕ) → 2 ≤ k → k ≤ length s
-    → is_name_store builtin (take k s)
-    ≡ eqb (get_or s 0 0) (code "&") && (begins builtin (take (k - 1) (drop 1 s)) && not (eqb (get_or s (k - 1) 0) (code ";")))
-name-some zero s two there = absurd (omega arith)
-name-some (suc zero) s two there = absurd (omega arith)
-name-some (suc (suc k)) [] two there = absurd (omega arith)
-name-some (suc (suc k)) (c ∷ s) two there =
-    let h = take (suc k) s in
-    let n : length h ≡ suc k = simp length-take (omega arith) in
-    let less : suc (suc k) - 1 ≡ suc k = omega arith in
-    let last : get_or h (length h - 1) 0 ≡ get_or s k 0 =
-    ap (λ (i : ℕ). get_or h i 0) (let e : length h - 1 ≡ k = omega (arith, n) in e) ∙ get_or-take (suc k) s k 0 (omega arith) in
-    rw (less, lt-ltb 0 (length h) (omega (arith, n)), and-true (eqb c (code "&")), held-by-last h (omega (arith, n)), last)
+-- A store of two bytes or more has a name exactly if `&` stands first, then a beginning of some name, and its last byte is no `;`.
+pub name-some : (s : List ℕ) → 2 ≤ length s
+    → is_name_store builtin s
+    ≡ eqb (get_or s 0 0) (code "&") && (begins builtin (take (length s - 1) (drop 1 s)) && not (eqb (get_or s (length s - 1) 0) (code ";")))
+name-some [] two = absurd (omega arith)
+name-some (c ∷ h) two =
+    let less : suc (length h) - 1 ≡ length h = omega arith in
+    let at : suc (length h - 1) ≡ length h = omega arith in
+    let last : get_or h (length h - 1) 0 ≡ get_or (c ∷ h) (length h) 0 = ap (λ (i : ℕ). get_or (c ∷ h) i 0) at in
+    rw (less, take_all (length h) h (omega arith), lt-ltb 0 (length h) (omega arith), and-true (eqb c (code "&")), held-by-last h (omega arith), last)
 
 -- `&#x` or `&#X`, as a list with its letter.
 hex_intro : (s : List ℕ) → is_hex_intro s ≡ true → (letter : ℕ) × (is_x letter ≡ true) × (s ≡ code "&" ∷ code "#" ∷ letter ∷ [])

@@ -181,10 +181,6 @@ module _ {context : Context} {before : ℕ} {s : List ℕ} {from : ℕ} {text er
         ∙ ap (λ (n : ℕ). stops_at done (reading_at (before + at) (piece_of p)) (at_by Data [] n)) (omega arith))
         wrote (omega (arith, put_length wrote.texts)) (omega (arith, put_length wrote.numbers_of)) (omega arith) (omega arith)
 
-    -- The room that is left.
-    pub skims_room : (length text' ≡ length text) × (length errors' ≡ length errors)
-    skims_room = (put_length g.wrote.texts, put_length g.wrote.numbers_of)
-
     -- Where it is not found lacking, there is room for a byte.
     pub skims_free : {lacks : Bool} → lacks ≡ lacks_room (length text' - w') (length errors' - e') → lacks ≡ false
         → (64 ≤ length text' - w') × (8 ≤ length errors' - e')

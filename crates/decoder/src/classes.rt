@@ -26,7 +26,7 @@ pub(crate) fn alphanumeric(b: u8) -> bool
     b.is_ascii_alphanumeric()
 }
 
-// The code of a character that stands for itself.
+// The code of a character that stands for itself, or 0: a number and not an Option, as the standard's definitions have it.
 pub(crate) fn character_code(c: u32) -> u32
     ensures { result ≡ standard.character_code c }
 {

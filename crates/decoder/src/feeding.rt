@@ -19,7 +19,8 @@ use crate::writers::{Ends, lacks_room, put_piece};
 use standard::Context;
 use standard::characters::{CharRead, read_char};
 
-// What a walk over a chunk comes to: its answer, the record of where it ended, and where what was written ends.
+// What a walk over a chunk comes to: its answer, by document 01's number, which `Fed` hands on, the record of where it ended, and where what was
+// written ends.
 #[derive(Clone, Copy)]
 pub(crate) struct Walked {
     pub answer: u32,
@@ -27,7 +28,8 @@ pub(crate) struct Walked {
     pub ends: Ends,
 }
 
-// Writes what is released of what is held, with the character at place p after it.
+// Writes what is released of what is held, with the character at place p after it. Both rooms and their ends go from call to call one by one, here
+// and below: a struct that lends the rooms would have to be taken apart and made anew in each.
 fn put_turn(
     text: &mut [u8],
     errors: &mut [u32],
@@ -109,11 +111,11 @@ fn put_stop(
 }
 
 // The first n bytes of rest, with zeros after them.
-pub(crate) fn kept(rest: &[u8], n: usize) -> [u8; 3]
-    requires { (n ≤ 3) × (n ≤ length rest.now) }
-    ensures { result ≡ spec.padded 3 (take n rest.now) }
+pub(crate) fn padded<const N: usize>(rest: &[u8], n: usize) -> [u8; N]
+    requires { (n ≤ N) × (n ≤ length rest.now) }
+    ensures { result ≡ spec.padded N (take n rest.now) }
 {
-    let mut part = [0u8; 3];
+    let mut part = [0u8; N];
     rooms::copy(&rest[..n], &mut part, 0);
     part
 }
@@ -157,7 +159,7 @@ fn keep_byte(record: Stream, own: &[u8], n: usize) -> Stream
         (spec.at_by (spec.st_of «record».held) (take n own.now) («record».taken + 1)) }
 {
     Stream {
-        part: kept(own, n),
+        part: padded(own, n),
         part_count: n,
         taken: record.taken + 1,
         ..record

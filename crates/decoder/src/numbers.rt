@@ -6,28 +6,16 @@ ghost use Rattle.standard.specs.Numbers.{digit_of, is_digit, number, replacement
 use crate::classes::{control, noncharacter, whitespace};
 
 // What a byte counts as a digit; 16 where it is none, so that one comparison with the base tells both.
+#[tactic(auto, unfolding(standard::specs::Numbers::digit_of))]
 pub(crate) fn digit_of(b: u8) -> u32
     ensures { result ≡ digit_of b }
 {
-    if b < b'0' {
-        return 16;
+    match b {
+        b'0'..=b'9' => u32::from(b - b'0'),
+        b'A'..=b'F' => u32::from(b - b'A') + 10,
+        b'a'..=b'f' => u32::from(b - b'a') + 10,
+        _ => 16,
     }
-    if b <= b'9' {
-        return (b - b'0') as u32;
-    }
-    if b < b'A' {
-        return 16;
-    }
-    if b <= b'F' {
-        return (b - b'A') as u32 + 10;
-    }
-    if b < b'a' {
-        return 16;
-    }
-    if b <= b'f' {
-        return (b - b'a') as u32 + 10;
-    }
-    16
 }
 
 // The first number past the last code point. A value stops there, so it never wraps.
@@ -62,6 +50,7 @@ pub(crate) fn do_numeric(rest: &[u8], from: usize, base: u32) -> Digits
         × (result.value ≡ min (number base (front (is_digit base) (drop from rest.now))) 0x110000) }
 {
     let mut value: u32 = 0;
+    // Over places, since the one where the digits end is asked for.
     for end in from..rest.len() {
         let digit = digit_of(rest[end]);
         if base <= digit {
@@ -82,7 +71,7 @@ const C1_REPLACEMENTS: [u32; 32] = [
     0x02DC, 0x2122, 0x0161, 0x203A, 0x0153, 0x9D, 0x017E, 0x0178,
 ];
 
-pub(crate) fn replacement(n: u32) -> u32
+fn replacement(n: u32) -> u32
     ensures { result ≡ replaced_by replacements n }
 {
     match n {

@@ -26,16 +26,10 @@ fn is_hex_intro(store: &[u8]) -> bool
 fn is_named(store: &[u8]) -> bool
     ensures { result ≡ spec.is_name_store builtin store.now }
 {
-    if store.len() < 2 {
-        return false;
+    match store {
+        [b'&', .., last] => begins_name(&store[1..]) & (*last != b';'),
+        _ => false,
     }
-    if store[0] != b'&' {
-        return false;
-    }
-    if store[store.len() - 1] == b';' {
-        return false;
-    }
-    begins_name(&store[1..])
 }
 
 // The store is what the state says.

@@ -1,8 +1,9 @@
 // One piece: a newline, a character that stands for itself, or a reference. It is read from a slice and handed back as a value;
 // whoever has a room writes it.
 ghost use Rattle.std.specs.Prelude.{◌≡◌, ◌≤◌, ◌<◌, length, drop, IfSome, if◌then◌else◌};
-ghost use Rattle.lists.specs.Notation.{next};
+ghost use Rattle.lists.specs.Notation.{next, front};
 ghost use Rattle.standard.specs.Utf8.{read_char};
+ghost use Rattle.standard.specs.Classes.{alphanumeric};
 ghost use Rattle.standard.specs.Names.{longest, found_of};
 ghost use Rattle.standard.specs.NameList.{builtin};
 ghost use Rattle.standard.specs.Pieces as standard;
@@ -94,20 +95,21 @@ fn numeric(rest: &[u8]) -> Piece
     numeric_from(rest, 0, 10, 2)
 }
 
+// The place after the letters and digits at the front.
+fn letters_end(rest: &[u8]) -> usize
+    ensures { result ≡ length (front alphanumeric rest.now) }
+{
+    rest.iter()
+        .position(|b| !b.is_ascii_alphanumeric())
+        .unwrap_or(rest.len())
+}
+
 // `do_bogus_name`: one or more letters or digits, and then `;`.
 fn unknown_name(rest: &[u8]) -> bool
     ensures { result ≡ standard.unknown_name rest.now }
 {
-    for at in 0..rest.len() {
-        let b = rest[at];
-        if !alphanumeric(b) {
-            if b == b';' {
-                return 0 < at;
-            }
-            return false;
-        }
-    }
-    false
+    let end = letters_end(rest);
+    (0 < end) & next_is(rest, end, b';')
 }
 
 // Whether what stands at `at` keeps a name without `;` from being a reference: `=`, a letter or a digit, in an attribute.

@@ -50,6 +50,7 @@ fn in_reference(b: u8) -> bool
 fn reference_end(rest: &[u8]) -> Option<usize>
     ensures { ClosesAt rest.now result }
 {
+    // Over places, and no `position`: a `;` and any other byte that ends it are told apart.
     for at in 1..rest.len() {
         let b = rest[at];
         if b == b';' {
@@ -100,7 +101,8 @@ fn has_room(size: usize, text: usize, errors: usize) -> bool
     (64 + size <= text) & (8 + 2 * size <= errors)
 }
 
-// The chunk from `from` on, where before bytes were taken before it and nothing is held: as far as it stands for itself and has room.
+// The chunk from `from` on, where before bytes were taken before it and nothing is held: as far as it stands for itself and has room. Rooms and ends
+// go one by one, as in feeding.rt.
 pub(crate) fn skim(
     context: Context,
     before: u32,

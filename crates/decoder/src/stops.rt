@@ -13,7 +13,7 @@ pub(crate) struct Stopped {
     pub place: usize,
 }
 
-// The byte before which a source ends.
+// The byte before which a source ends. The checker has its own: the two share nothing but `standard`.
 pub(crate) fn end_of(context: Context) -> u8
     ensures { result ≡ end_byte context }
 {

@@ -4,7 +4,7 @@ ghost use Rattle.standard.specs.NameList.{builtin};
 ghost use Rattle.decoder.specs.Stream as spec;
 ghost use Rattle.decoder.specs.Feeding.{refusal_of};
 
-use crate::feeding::{Walked, kept, put_last, walk};
+use crate::feeding::{Walked, padded, put_last, walk};
 use crate::numbers::stopped;
 use crate::opening::is_open;
 use crate::turns::{after_cr, data};
@@ -12,7 +12,7 @@ use crate::writers::{Ends, lacks_room};
 use standard::Context;
 
 // CharRefTokenizer's states, with data around them.
-#[derive(Clone, Copy)]
+#[derive(Clone, Copy, PartialEq, Eq, Debug)]
 pub enum State {
     // Nothing is held; nothing after a CR, whose LF is to be passed over.
     Data,
@@ -21,7 +21,7 @@ pub enum State {
     Begin,
     Octothorpe,
     HexBegin,
-    // `&#` or `&#x` and digits, of which only the number is kept.
+    // `&#` or `&#x` and digits, of which only the number is kept. The base is a number, 10 or 16, as document 01 has it.
     Numeric { base: u32, value: u32 },
     // `&` and a beginning of some name.
     Named,
@@ -30,8 +30,8 @@ pub enum State {
     Closed,
 }
 
-// What is held: the state, the place of its `&`, and the first count bytes of the store.
-#[derive(Clone, Copy)]
+// What is held: the state, the place of its `&`, and the first count bytes of the store, an array, since there is no heap.
+#[derive(Clone, Copy, PartialEq, Eq, Debug)]
 pub struct Held {
     pub state: State,
     pub place: u32,
@@ -40,7 +40,7 @@ pub struct Held {
 }
 
 // A stream between two calls: its context, what is held, the first part_count bytes of an incomplete character, and how many bytes were taken.
-#[derive(Clone, Copy)]
+#[derive(Clone, Copy, PartialEq, Eq, Debug)]
 pub struct Stream {
     pub context: Context,
     pub held: Held,
@@ -50,7 +50,7 @@ pub struct Stream {
 }
 
 // What a call answers: a number, bytes taken, text bytes and errors written, a place, and the record.
-#[derive(Clone, Copy)]
+#[derive(Clone, Copy, PartialEq, Eq, Debug)]
 pub struct Fed {
     pub answer: u32,
     pub taken: u32,
@@ -60,22 +60,12 @@ pub struct Fed {
     pub record: Stream,
 }
 
-// The first count bytes of a store, with zeros after them.
-fn cleared(store: [u8; 32], count: usize) -> [u8; 32]
-    requires { count ≤ 32 }
-    ensures { result ≡ spec.padded 32 (take count store) }
-{
-    let mut clear = [0u8; 32];
-    rooms::copy(&store[..count], &mut clear, 0);
-    clear
-}
-
 // What is held, with nothing past its count.
 fn canonical(held: Held) -> Held
     requires { (held.count ≤ 32) × (spec.holds builtin held.state (take held.count held.store) ≡ true) }
     ensures { result ≡ spec.held_of (spec.st_of held) }
 {
-    let store = cleared(held.store, held.count);
+    let store = padded(&held.store, held.count);
     match held.state {
         State::Data => data(),
         State::AfterCr => after_cr(),
@@ -99,7 +89,7 @@ fn cleared_record(record: Stream) -> Stream
     let bytes = record.part;
     Stream {
         held: canonical(record.held),
-        part: kept(&bytes, record.part_count),
+        part: padded(&bytes, record.part_count),
         ..record
     }
 }

@@ -35,7 +35,7 @@ fn ascii(c: u32) -> u8
     0x80
 }
 
-// Nothing is held.
+// Nothing is held. This and the next have a function each, named as their state of the machine is, since contracts name it.
 pub(crate) fn data() -> Held
     ensures { result ≡ held_of machine.Data }
 {
@@ -240,7 +240,7 @@ fn settle(context: Context, held: Held, rest: &[u8], p: u32, c: u32) -> Turn
     }
 }
 
-// What was found stands for.
+// What was found stands for. A match and no `map_or`: what a closure gave is not told to a law that speaks of this.
 fn reference_of(found: Option<Found>) -> CharRef
     ensures { result ≡ (found_of found).reference }
 {

@@ -13,7 +13,7 @@ use crate::writers::{Ends, Reached, put_piece};
 use standard::Context;
 
 // The answer, text bytes written (or asked for, with 9), errors written, and place.
-#[derive(Clone, Copy)]
+#[derive(Clone, Copy, PartialEq, Eq, Debug)]
 pub struct Decoded {
     pub answer: u32,
     pub text: u32,
@@ -73,7 +73,8 @@ fn decode_pieces<T: Laid>(context: Context, s: &[u8], text: &mut [u8], errors: &
     ends
 }
 
-// The answer before anything is written: 3, then 9, then why the source stops, and where, also where it is read to its end.
+// The answer before anything is written: 3, then 9, then why the source stops, and where, also where it is read to its end. No Result: with 0 and 7
+// the answer and the place are handed on, too.
 fn unread(context: Context, source: &[u8], text: usize, errors: usize) -> Decoded
     ensures { result ≡ unread_of context source.now text errors }
 {

@@ -87,7 +87,7 @@ fn put_octets(text: &mut [u8], at: usize, c: u32) -> usize
 }
 
 // The bytes of a character.
-pub(crate) fn put_char(text: &mut [u8], at: usize, c: u32) -> usize
+fn put_char(text: &mut [u8], at: usize, c: u32) -> usize
     requires { at + 4 ≤ length text.old }
     ensures { Put text.old at (encode c) text.new result }
 {
@@ -95,7 +95,7 @@ pub(crate) fn put_char(text: &mut [u8], at: usize, c: u32) -> usize
 }
 
 // The text of a reference: none, one or both of its characters.
-pub(crate) fn put_reference(text: &mut [u8], at: usize, reference: CharRef) -> usize
+fn put_reference(text: &mut [u8], at: usize, reference: CharRef) -> usize
     requires { at + 8 ≤ length text.old }
     ensures { Put text.old at (char_ref_text reference) text.new result × (result ≤ at + 8) }
 {
@@ -111,7 +111,7 @@ pub(crate) fn put_reference(text: &mut [u8], at: usize, reference: CharRef) -> u
 }
 
 // Writes an error: its code, then its place.
-pub(crate) fn put_error(errors: &mut [u32], at: usize, code: u32, place: u32) -> usize
+fn put_error(errors: &mut [u32], at: usize, code: u32, place: u32) -> usize
     requires { at + 2 ≤ length errors.old }
     ensures { Put errors.old at (code ∷ place ∷ []) errors.new result }
 {
@@ -121,7 +121,7 @@ pub(crate) fn put_error(errors: &mut [u32], at: usize, code: u32, place: u32) ->
 }
 
 // An error, or none where the code is 0.
-pub(crate) fn put_code(errors: &mut [u32], at: usize, code: u32, place: u32) -> usize
+fn put_code(errors: &mut [u32], at: usize, code: u32, place: u32) -> usize
     requires { at + 2 ≤ length errors.old }
     ensures { Put errors.old at (numbers (placed place (listed code))) errors.new result }
 {
@@ -132,7 +132,7 @@ pub(crate) fn put_code(errors: &mut [u32], at: usize, code: u32, place: u32) -> 
 }
 
 // The errors of a piece: two codes, each 0 where there is none.
-pub(crate) fn put_codes(errors: &mut [u32], at: usize, first: u32, second: u32, place: u32) -> usize
+fn put_codes(errors: &mut [u32], at: usize, first: u32, second: u32, place: u32) -> usize
     requires { at + 4 ≤ length errors.old }
     ensures { Put errors.old at (numbers (placed place (listed first ++ listed second))) errors.new result }
 {

@@ -2,7 +2,7 @@
 use Prim.Native.Nat.{ℕ, ◌≤◌, ◌<◌}
 use mathlib.Core.Path.{◌≡◌, refl}
 use mathlib.Core.List.{List, []}
-use mathlib.Core.Logic.{◌⊎◌, inl, inr, ⊎_elim}
+use mathlib.Core.Logic.{◌⊎◌, inl, inr}
 use lib.ListN.{length}
 use borrow.Author.Tests.{lt-ltb, le-ltb, eq-eqb, ne_eqb}
 use Rattle.standard.specs.declared.characters.CharRead.{CharRead}
@@ -23,10 +23,6 @@ stops_with s = stop_cases (λ (a : ℕ). (a ≡ done) ⊎ (a ≡ ill_formed)) (�
     called (Incomplete n) = inr refl
     called (Illformed n) = inr refl
     called End = inl refl
-
--- An input without a fault is well-formed.
-pub no_fault : (s : List ℕ) → ((escape_stop s).answer ≡ ill_formed → ⊥) → (escape_stop s).answer ≡ done
-no_fault s h = ⊎_elim (λ e. e) (λ e. absurd (h e)) (stops_with s)
 
 -- The answer, and what is written.
 abbrev Answered : Mode → List ℕ → ℕ → Escaped → List ℕ → Type 0

@@ -20,7 +20,7 @@ pub enum Mode {
 impl TryFrom<u32> for Mode {
     type Error = u32;
 
-    ghost try_from_gives = { λ number r. MatchResult r (λ mode. number ≡ number_of mode) (λ other. 1 < number) };
+    ghost try_from_gives = { λ number r. MatchResult r (λ mode. number ≡ number_of mode) (λ other. (other ≡ number) × (1 < number)) };
 
     fn try_from(number: u32) -> Result<Self, u32> {
         match number {
@@ -31,8 +31,8 @@ impl TryFrom<u32> for Mode {
     }
 }
 
-// The answer, the length of the result (with 0 and 9), and the place of a fault.
-#[derive(Clone, Copy)]
+// The answer, by document 01's number, the length of the result (with 0 and 9), and the place of a fault.
+#[derive(Clone, Copy, PartialEq, Eq, Debug)]
 pub struct Escaped {
     pub answer: u32,
     pub text: u32,

@@ -1,4 +1,5 @@
-// Where an input stops: at its end, or at the first bytes that are no character.
+// Where an input stops: at its end, or at the first bytes that are no character. It has no end byte and no answer for NUL, so it is no part of the
+// decoder's.
 ghost use Rattle.std.specs.Prelude.{◌≡◌, ◌≤◌, MatchOption, length};
 ghost use Rattle.standard.specs.Answers.{done, ill_formed};
 ghost use Rattle.escaper.specs.Escape.{escape_stop};

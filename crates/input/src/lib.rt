@@ -15,6 +15,7 @@ pub fn read_full<R: Read>(reader: &mut R, buffer: &mut [u8]) -> io::Result<usize
     ensures end { IfOk result (λ count. count < length buffer.new → IsAtEnd (R.remaining reader.new)) }
 {
     let mut count = 0;
+    // A `while`: how much a call reads is the reader's to say.
     while count < buffer.len() {
         match reader.read(&mut buffer[count..])? {
             0 => return Ok(count),

@@ -1,11 +1,10 @@
 -- Laws of writing into a room: what two writers one after the other write is what one would.
-use Prim.Native.Nat.{ℕ, suc, ◌+◌, ◌≤◌, ◌<◌}
+use Prim.Native.Nat.{ℕ, suc, ◌+◌, ◌≤◌}
 use mathlib.Core.Path.{◌≡◌, refl, sym, ◌∙◌, ap}
 use mathlib.Core.List.{List, [], ◌∷◌, ◌++◌}
 use native.Mathlib.Omega.{arith}
-use native.Mathlib.Numerals.{add-one}
-use lib.ListN.{length, get_or, take, drop, set, length-append, drop_of_length-le}
-use lib.Seq.{drop-cons, sets, length-sets, sets-eq, take_at}
+use lib.ListN.{length, take, drop, set, length-append}
+use lib.Seq.{sets, length-sets, sets-eq, take_at}
 use Rattle.lists.specs.Rooms.{Put}
 
 -- Joined values are written one after the other.
@@ -41,11 +40,3 @@ sets-front room values h =
 pub take-written : {A : Type 0} (room values : List A) (n : ℕ) → length values ≡ n → length values ≤ length room
     → take n (sets room 0 values) ≡ values
 take-written room values n e h = rw (sets-front room values h) (take_at values (drop (length values) room) n e)
-
--- The rest of a list is written by one value and then the rest after it.
-pub sets-drop : (l h : List ℕ) (o i : ℕ) → i < length h → sets l o (drop i h) ≡ sets (set l o (get_or h i 0)) (o + 1) (drop (i + 1) h)
-sets-drop l h o i k = rw (drop-cons h i 0 k, add-one o, add-one i)
-
--- Where nothing is left nothing is written.
-pub sets-done : (l h : List ℕ) (o i : ℕ) → length h ≤ i → sets l o (drop i h) ≡ l
-sets-done l h o i k = rw (drop_of_length-le h k)

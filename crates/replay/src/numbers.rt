@@ -8,7 +8,7 @@ pub(crate) fn short_at(s: &[u8], at: usize) -> u16
     u16::from_le_bytes([s[at], s[at + 1]])
 }
 
-// The number of four bytes.
+// The number of four bytes. The crate `standard` has the same for its table, for itself alone.
 pub(crate) fn number_at(s: &[u8], at: usize) -> u32
     requires { at + 4 ≤ length s.now }
 {

@@ -74,7 +74,8 @@ fn read_tails(rest: &[u8], lead: Lead) -> CharRead
     }
 }
 
-// The character at the front of rest.
+// The character at the front of rest. It is inlined, since a call for each character takes longer than most characters do.
+#[inline(always)]
 pub fn read_char(rest: &[u8]) -> CharRead
     ensures { result ≡ read_char rest.now }
 {

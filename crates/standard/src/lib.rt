@@ -20,7 +20,7 @@ pub enum Context {
 impl TryFrom<u32> for Context {
     type Error = u32;
 
-    ghost try_from_gives = { λ number r. MatchResult r (λ context. number ≡ number_of context) (λ other. 1 < number) };
+    ghost try_from_gives = { λ number r. MatchResult r (λ context. number ≡ number_of context) (λ other. (other ≡ number) × (1 < number)) };
 
     fn try_from(number: u32) -> Result<Self, u32> {
         match number {

@@ -5,7 +5,7 @@ ghost use Rattle.standard.specs.Records.{name_of};
 
 use crate::records::{Record, Records};
 
-// The characters that a reference stands for: the first num_chars of chars.
+// The characters that a reference stands for: the first num_chars of chars, as html5ever's CharRef has them.
 #[derive(Clone, Copy, PartialEq, Eq, Debug)]
 pub struct CharRef {
     pub chars: [u32; 2],
@@ -37,7 +37,7 @@ impl CharRef {
 }
 
 // A name that was found: its length and its characters.
-#[derive(Clone, Copy)]
+#[derive(Clone, Copy, PartialEq, Eq, Debug)]
 pub struct Found {
     pub len: usize,
     pub reference: CharRef,
@@ -53,7 +53,7 @@ fn stands_at(word: &[u8], s: &[u8]) -> bool
     }
 }
 
-// The length of what was found, 0 where nothing was.
+// The length of what was found, 0 where nothing was. A match and no `map_or`: what a closure gave is not told to a law that speaks of this.
 fn len_of(found: Option<Found>) -> usize
     ensures { result ≡ (found_of found).len }
 {

@@ -1,11 +1,13 @@
--- The invariant: the bytes so far are ordinary.
-use Prim.Native.Nat.{◌≤◌, ◌-◌}
-use lib.ListN.{length}
+-- The invariant: the rest is what stands after so many bytes, and these are ordinary.
+use Prim.Native.Nat.{◌-◌, ◌≤◌}
+use mathlib.Core.Path.{◌≡◌}
+use lib.ListN.{length, drop}
 use Rattle.checker.specs.Spans.{Ordinary}
 use Rattle.checker.proofs.spans.ordinary_front.Given as goal
 
-abbrev pub invariant-loop-i : goal.invariant-loop-i
-invariant-loop-i l = (l.i ≤ length l.s) × Ordinary l.end l.s l.i
+abbrev pub invariant-loop-block : goal.invariant-loop-block
+invariant-loop-block l =
+    (length l.rest ≤ length l.s) × (l.rest ≡ drop (length l.s - length l.rest) l.s) × Ordinary l.end l.s (length l.s - length l.rest)
 
-abbrev pub decreases-loop-i : goal.decreases-loop-i
-decreases-loop-i l = length l.s - l.i
+abbrev pub decreases-loop-block : goal.decreases-loop-block
+decreases-loop-block l = length l.rest

@@ -52,7 +52,7 @@ returns-in-Numeric c =
     (λ i. record {
       state = kind.Numeric c.in-Numeric.base (c.stopped.ensures i);
       place = h.place;
-      store = c.cleared-store.ensures i;
+      store = c.padded-store.ensures i;
       count = counts i;
     })
     ∙ ap (λ (x : State). held_of (st_by x h.place s)) (sym c.in-Numeric.is)
@@ -64,5 +64,5 @@ returns-in_default c =
     let n : length h.store ≡ 32 = search rules in
     let s = take h.count h.store in
     let counts : h.count ≡ length s = sym (length-take-le h.count h.store (omega arith)) in
-    (λ i. record { state = h.state; place = h.place; store = c.cleared-store.ensures i; count = counts i })
+    (λ i. record { state = h.state; place = h.place; store = c.padded-store.ensures i; count = counts i })
     ∙ sym (others h.state h.place s c.in_default.not-Data c.in_default.not-AfterCr c.in_default.not-Numeric c.requires.1)

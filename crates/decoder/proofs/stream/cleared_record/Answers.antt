@@ -12,11 +12,11 @@ canonical-requires c =
     let p = opened c.args.«record» c.requires in
     (p.count, p.stored)
 
-pub kept-requires : goal.kept-requires
-kept-requires c =
+pub padded-requires : goal.padded-requires
+padded-requires c =
     let p = opened c.args.«record» c.requires in
     let three : length c.args.«record».part ≡ 3 = search rules in
-    (p.part, omega (arith, p.part, three))
+    (omega arith, (p.part, omega (arith, p.part, three)))
 
 pub returns : goal.returns
 unfolding record_of
@@ -27,7 +27,7 @@ returns c =
     λ i. record {
       context = r.context;
       held = c.canonical.ensures i;
-      part = c.kept.ensures i;
+      part = c.padded.ensures i;
       part_count = sym (length-take-le r.part_count r.part (omega (arith, p.part, three))) i;
       taken = r.taken;
     }
