@@ -1,9 +1,9 @@
 -- Pieces of the code, one law for each way that its readers return.
 use Rattle.std.specs.Prelude.{if◌then◌else◌}
-use Prim.Native.Nat.{ℕ, zero, suc, ◌+◌, ◌-◌, ◌≤◌, ◌<◌, min}
+use Prim.Native.Nat.{ℕ, suc, ◌+◌, ◌-◌, ◌≤◌, ◌<◌, min}
 use Prim.Native.Char.{code}
 use mathlib.Core.Path.{◌≡◌, refl, sym, ◌∙◌, ap}
-use mathlib.Core.List.{List, [], ◌∷◌, append-nil}
+use mathlib.Core.List.{List, [], append-nil}
 use mathlib.Core.Bool.{Bool, true, false, ◌||◌, ◌&&◌}
 use mathlib.Core.Logic.{◌≢◌, ⊎_elim}
 use native.Mathlib.Omega.{arith}
@@ -52,16 +52,6 @@ use Rattle.standard.proofs.FrontPiece.{
 }
 use Rattle.checker.specs.declared.pieces.Piece.{Piece}
 use Rattle.checker.specs.Pieces.{codes_of, piece_of, one_of}
-
--- Where the first n elements pass, and the one after them doesn't, they are the front.
-pub front_ends : (p : ℕ → Bool) (l : List ℕ) (n : ℕ) → n ≤ length l → ((i : ℕ) → i < n → p (get_or l i 0) ≡ true)
-    → (n < length l → p (get_or l n 0) ≡ false) → n ≡ length (front p l)
-unfolding front
-front_ends p [] zero h each end = refl
-front_ends p [] (suc n) h each end = absurd (omega arith)
-front_ends p (b ∷ l) zero h each end = rw (end (omega arith)) refl
-front_ends p (b ∷ l) (suc n) h each end =
-    rw (each 0 (omega arith)) (ap suc (front_ends p l n (omega arith) (λ i k. each (suc i) (omega arith)) (λ k. end (omega arith))))
 
 -- What stands in the rest of some bytes.
 pub rest-at : (s : List ℕ) (from i : ℕ) → get_or (take (length s - from) (drop from s)) i 0 ≡ get_or s (from + i) 0

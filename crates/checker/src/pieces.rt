@@ -13,7 +13,8 @@ use standard::Context;
 use standard::characters::{CharRead, read_char};
 use standard::names::{CharRef, Found, longest_name};
 
-// How many source bytes a piece has, its characters, whether it lacks its `;`, and the code of its other error or 0.
+// How many source bytes a piece has, its characters, whether it lacks its `;`, and the code of its other error or 0, as `character_code` has it: it
+// may have both errors.
 #[derive(Clone, Copy)]
 pub(crate) struct Piece {
     pub size: usize,

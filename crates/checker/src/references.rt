@@ -83,7 +83,7 @@ fn c1(n: u32) -> u32
     }
 }
 
-// What a number means: a character, and the code of an error or 0.
+// What a number means: a character, and the code of an error or 0, as `character_code` has it.
 #[derive(Clone, Copy)]
 pub(crate) struct Meant {
     pub char: u32,

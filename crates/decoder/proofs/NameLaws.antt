@@ -1,31 +1,19 @@
 -- A named reference as the decoder's piece, and what its readers see.
 use Rattle.std.specs.Prelude.{if◌then◌else◌}
-use Prim.Native.Nat.{ℕ, zero, suc, ◌+◌, ◌-◌, ◌≤◌, ◌<◌}
+use Prim.Native.Nat.{ℕ, ◌+◌, ◌-◌}
 use Prim.Native.Char.{code}
-use mathlib.Core.Path.{◌≡◌, refl, sym, ◌∙◌, ap}
+use mathlib.Core.Path.{◌≡◌, sym, ◌∙◌}
 use mathlib.Core.List.{List, [], ◌∷◌}
 use mathlib.Core.Bool.{Bool, true, false}
 use mathlib.Core.Logic.{◌≢◌}
-use native.Mathlib.Omega.{arith}
 use native.Mathlib.Numerals.{add-one}
-use lib.ListN.{length, get_or, drop}
-use Rattle.lists.specs.Notation.{front}
+use lib.ListN.{get_or, drop}
 use Rattle.standard.specs.declared.Context.{Context}
 use Rattle.standard.specs.declared.names.Found.{Found}
 use Rattle.standard.specs.Pieces.{piece, char_ref_text, unknown_name, named_by, stays_text}
 use Rattle.standard.proofs.FrontPiece.{by_none, by_closed, by_staying, by_open}
 use Rattle.decoder.specs.Pieces.{piece_of, one_of}
 use Rattle.decoder.proofs.PieceLaws.{alone}
-
--- Where the first n elements pass, and the one after them doesn't, they are the front.
-pub front_ends : (p : ℕ → Bool) (l : List ℕ) (n : ℕ) → n ≤ length l → ((i : ℕ) → i < n → p (get_or l i 0) ≡ true)
-    → (n < length l → p (get_or l n 0) ≡ false) → n ≡ length (front p l)
-unfolding front
-front_ends p [] zero h each end = refl
-front_ends p [] (suc n) h each end = absurd (omega arith)
-front_ends p (b ∷ l) zero h each end = rw (end (omega arith)) refl
-front_ends p (b ∷ l) (suc n) h each end =
-    rw (each 0 (omega arith)) (ap suc (front_ends p l n (omega arith) (λ i k. each (suc i) (omega arith)) (λ k. end (omega arith))))
 
 -- What stands after an `&`, by the longest name that is found there.
 module _ (context : Context) (found : Found) (s : List ℕ) where

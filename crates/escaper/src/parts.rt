@@ -4,7 +4,7 @@ ghost use Rattle.escaper.specs.Walk.{quote_of, Sound, Moves};
 
 use crate::{Mode, specials};
 
-// The quotation mark where that is replaced, and `<` once more where it is not.
+// The quotation mark where that is replaced, and `<` once more where it is not. It ends no input, so it is no `end_of`.
 fn quote_of(mode: Mode) -> u8
     ensures { result ≡ quote_of mode }
 {

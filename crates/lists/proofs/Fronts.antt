@@ -16,6 +16,16 @@ pub front-none : (p : ℕ → Bool) (s : List ℕ) (i : ℕ) → length s ≤ i 
 unfolding front
 front-none p s i h = rw (drop_of_length-le s h)
 
+-- Where the first n elements pass, and the one after them doesn't, they are the front.
+pub front_ends : (p : ℕ → Bool) (l : List ℕ) (n : ℕ) → n ≤ length l → ((i : ℕ) → i < n → p (get_or l i 0) ≡ true)
+    → (n < length l → p (get_or l n 0) ≡ false) → n ≡ length (front p l)
+unfolding front
+front_ends p [] zero h each end = refl
+front_ends p [] (suc n) h each end = absurd (omega arith)
+front_ends p (b ∷ l) zero h each end = rw (end (omega arith)) refl
+front_ends p (b ∷ l) (suc n) h each end =
+    rw (each 0 (omega arith)) (ap suc (front_ends p l n (omega arith) (λ i k. each (suc i) (omega arith)) (λ k. end (omega arith))))
+
 module _ (p : ℕ → Bool) (s : List ℕ) (i : ℕ) (there : i < length s) where
   -- An element that fails the test ends the front.
   pub front_stops : p (get_or s i 0) ≡ false → front p (drop i s) ≡ []

@@ -41,9 +41,11 @@ pub struct Records<'a> {
 }
 
 impl<'a> Records<'a> {
+    ghost use Rattle.standard.specs.Records.{bytes_left};
+
     // All of a table's.
     pub fn of(table: &'a [u8]) -> Records<'a>
-        ensures { result.rest.now ≡ table.now }
+        ensures { bytes_left result ≡ table.now }
     {
         Records { rest: table }
     }
@@ -51,13 +53,13 @@ impl<'a> Records<'a> {
 
 impl<'a> Iterator for Records<'a> {
     ghost use Rattle.standard.specs.Names.{records};
-    ghost use Rattle.standard.specs.Records.{name_of};
+    ghost use Rattle.standard.specs.Records.{name_of, bytes_left};
 
     type Item = Record<'a>;
 
-    ghost next_gives = { YieldsFirstBy name_of (λ s. records s.rest.now) };
+    ghost next_gives = { YieldsFirstBy name_of (λ s. records (bytes_left s)) };
 
-    ghost remaining = { item_count (λ s. records s.rest.now) };
+    ghost remaining = { item_count (λ s. records (bytes_left s)) };
 
     fn next(&mut self) -> Option<Record<'a>> {
         let Some((length, rest)) = self.rest.split_first() else {

@@ -4,9 +4,9 @@ use mathlib.Core.List.{List}
 use mathlib.Core.Bool.{true, false}
 use lib.ListN.{length, get_or, take, drop}
 use borrow.Author.Rules.{rules}
+use Rattle.lists.proofs.Fronts.{front_ends}
 use Rattle.standard.specs.Classes.{alphanumeric}
 use Rattle.standard.proofs.Skips.{rest_from}
-use Rattle.checker.proofs.PieceLaws.{front_ends}
 use Rattle.checker.proofs.pieces.letters_end.Goals as goal
 
 pub returns : goal.returns

@@ -4,8 +4,8 @@ use mathlib.Core.List.{List}
 use mathlib.Core.Bool.{true, false}
 use lib.ListN.{length, get_or}
 use borrow.Author.Rules.{rules}
+use Rattle.lists.proofs.Fronts.{front_ends}
 use Rattle.standard.specs.Classes.{alphanumeric}
-use Rattle.decoder.proofs.NameLaws.{front_ends}
 use Rattle.decoder.proofs.pieces.letters_end.Goals as goal
 
 pub returns : goal.returns
