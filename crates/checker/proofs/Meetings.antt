@@ -12,12 +12,12 @@ use native.Mathlib.Omega.{arith}
 use lib.Dec.{eqb}
 use lib.ListN.{length, get_or, take, drop, length-append, length-drop, length-take, drop_of_length-le}
 use lib.Seq.{drop-drop, drop-cons, get_or-drop}
-use borrow.Author.Tests.{eqb-true, eq-eqb}
+use borrow.Author.Tests.{lt-ltb, eqb-true, eq-eqb}
 use Rattle.lists.specs.Bytes.{word32, words}
 use Rattle.lists.proofs.Choice.{no_way, test?}
 use Rattle.standard.specs.declared.characters.CharRead.{CharRead}
 use Rattle.standard.specs.declared.characters.CharRead.TheVariants.{Char}
-use Rattle.standard.specs.Utf8.{read_char, written, encode}
+use Rattle.standard.specs.Utf8.{read_char, written, octets, encode}
 use Rattle.standard.specs.Names.{stands}
 use Rattle.standard.proofs.Narrow.{stands-fits}
 use Rattle.standard.proofs.RoundTrip.{encode-octets, encode-scalar}
@@ -103,6 +103,11 @@ met_on-none l (Some at) = met_none l at
 pub met_on-append : (a b l : List ℕ) (o : Option ℕ) → met_on (a ++ b) l o ≡ met_on b l (met_on a l o)
 met_on-append a b l None = refl
 met_on-append a b l (Some at) = met-append a b l at
+
+-- ASCII is one byte.
+pub ascii-encoded : (c : ℕ) → c < 0x80 → encode c ≡ c ∷ []
+unfolding encode octets
+ascii-encoded c h = rw (lt-ltb c 0xD800 (omega arith), lt-ltb c 0x80 h) refl
 
 -- The bytes of a number stand where it is read.
 read-stands : (s : List ℕ) (c n : ℕ) → read_char s ≡ Char (written c) n → (stands (encode c) s ≡ true) × (n ≡ length (encode c))

@@ -21,12 +21,30 @@ fn written_as(c: u32) -> u32
     0xFFFD
 }
 
+// Meets a byte in text, which is all that ASCII has: so it is met without the reader of one character.
+#[tactic(auto, using(crate::proofs::Meetings::meet_numbers))]
+fn meet_byte(text: &[u8], at: usize, b: u32) -> Option<usize>
+    requires { at ≤ length text.now }
+    ensures { result ≡ met (b ∷ []) text.now at }
+{
+    if at == text.len() {
+        return None;
+    }
+    if u32::from(text[at]) != b {
+        return None;
+    }
+    Some(at + 1)
+}
+
 // Meets a character in text.
 #[tactic(auto, using(crate::proofs::Meetings::meet_chars))]
 fn meet_char(text: &[u8], at: usize, c: u32) -> Option<usize>
     requires { at ≤ length text.now }
     ensures { result ≡ met (encode c) text.now at }
 {
+    if c < 0x80 {
+        return meet_byte(text, at, c);
+    }
     let CharRead::Char { value, len } = read_char(&text[at..]) else {
         return None;
     };

@@ -31,11 +31,14 @@ fn ordinary_bytes(s: &[u8], end: u8) -> usize
     s.iter().position(|b| !ordinary(*b, end)).unwrap_or(s.len())
 }
 
-// The same, in blocks as long as they are ordinary.
+// The same, in blocks as long as they are ordinary. A look at the first byte spares the block where it is not.
 pub(crate) fn ordinary_front(s: &[u8], end: u8) -> usize
     ensures within { result ≤ length s.now }
     ensures each { spec.Ordinary end s.now result }
 {
+    if s.is_empty() || !ordinary(s[0], end) {
+        return 0;
+    }
     let mut rest = s;
     while let Some((block, after)) = rest.split_first_chunk::<64>() {
         if !ordinary_block(block, end) {

@@ -5,7 +5,9 @@ ghost use Rattle.std.specs.Prelude.{◌-◌, ◌/◌, length, take};
 ghost use Rattle.lists.specs.Bytes.{fours};
 ghost use Rattle.lists.specs.Rooms.{Put};
 
-// Copies as many bytes of `from` as fit into `to` from `at` on, and answers the place after them; all else stays.
+// Copies as many bytes of `from` as fit into `to` from `at` on, and answers the place after them; all else stays. It is inlined, since most runs are
+// shorter than a call.
+#[inline(always)]
 pub fn copy(from: &[u8], to: &mut [u8], at: usize) -> usize
     ensures { Put to.old at (take (length to.old - at) from.now) to.new result }
 {
@@ -13,11 +15,19 @@ pub fn copy(from: &[u8], to: &mut [u8], at: usize) -> usize
         return at;
     }
     let count = (to.len() - at).min(from.len());
-    if count == 0 {
-        return at;
+    let mut rest = &from[..count];
+    let mut next = at;
+    // In blocks, and the rest byte by byte: a `copy_from_slice` of any length becomes a call of memmove, which the archive for C would then need.
+    while let Some((block, after)) = rest.split_first_chunk::<32>() {
+        to[next..next + 32].copy_from_slice(block);
+        next += 32;
+        rest = after;
     }
-    to[at..at + count].copy_from_slice(&from[..count]);
-    at + count
+    for byte in rest {
+        to[next] = *byte;
+        next += 1;
+    }
+    next
 }
 
 // Writes as many of the numbers as fit whole into `to` from `at` on, and answers the place after them; all else stays.

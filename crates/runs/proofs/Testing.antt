@@ -3,7 +3,7 @@ use Rattle.std.specs.Prelude.{not, if◌then◌else◌}
 use Rattle.std.specs.List.{fold, position_or_len}
 use Rattle.std.specs.Option.{unwrap_or}
 use Rattle.std.proofs.Common.{cond, Option, Some, None}
-use Prim.Native.Nat.{ℕ, ◌+◌, ◌≤◌, ◌<◌}
+use Prim.Native.Nat.{ℕ, ◌+◌, ◌-◌, ◌≤◌, ◌<◌}
 use mathlib.Core.Path.{◌≡◌, refl, sym, ◌∙◌, ap}
 use mathlib.Core.List.{List, [], ◌∷◌}
 use mathlib.Core.Bool.{Bool, true, false, ◌&&◌}
@@ -11,11 +11,12 @@ use mathlib.Core.Logic.{⊎_elim}
 use native.Mathlib.Nat.{zero-add}
 use native.Mathlib.Omega.{arith}
 use lib.Dec.{ltb}
-use lib.ListN.{length, take, drop, length-append, length-take, length-drop}
+use lib.ListN.{length, get_or, take, drop, length-append, length-take, length-drop}
+use lib.Seq.{take_all}
 use borrow.Author.Tests.{lt-ltb, le-ltb}
 use Rattle.lists.specs.Notation.{front, every}
 use Rattle.lists.proofs.Choice.{below?}
-use Rattle.lists.proofs.Fronts.{front_length, passed_block}
+use Rattle.lists.proofs.Fronts.{front_length, front_goes_on, passed_block}
 
 -- A fold that holds on to whether all pass.
 fold-all : (test : ℕ → Bool) (all : Bool) (s : List ℕ) → fold (λ a b. a && test b) all s ≡ all && every test s
@@ -23,6 +24,15 @@ fold-all test true [] = refl
 fold-all test false [] = refl
 fold-all test true (b ∷ s) = fold-all test (test b) s
 fold-all test false (b ∷ s) = fold-all test false s
+
+-- A run goes on after its first element as what follows that begins.
+pub run_begins : (test : ℕ → Bool) (s : List ℕ) (from : ℕ) → from < length s → test (get_or s from 0) ≡ true
+    → let rest = take (length s - (from + 1)) (drop (from + 1) s) in
+    (length rest ≤ length s) × (from + length (front test (drop from s)) + length rest ≡ length s + length (front test rest))
+run_begins test s from there passes =
+    let left : length (drop (from + 1) s) ≤ length s - (from + 1) = simp length-drop (omega arith) in
+    rw (take_all (length s - (from + 1)) (drop (from + 1) s) left)
+    (simp length-drop (omega arith), simp length-drop (omega (arith, ap length (front_goes_on test s from there passes))))
 
 -- A block whose every element passes is the first of the front.
 pub block-passes : (test : ℕ → Bool) (n : ℕ) (s : List ℕ) {block after : List ℕ}

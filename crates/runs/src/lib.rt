@@ -11,10 +11,14 @@ fn run_end<P: Fn(u8) -> bool>(passes: P, s: &[u8], from: usize) -> usize
     requires { P.IsAlwaysCallable passes }
     ensures { (test : ℕ → Bool) → spec.Tests (P.post passes) test → result ≡ from + length (front test (drop from s.now)) }
 {
-    if s.len() < from {
+    if s.len() <= from {
         return from;
     }
-    let mut rest = &s[from..];
+    // Many runs are empty, where characters are read one by one: a look at the first byte spares the block.
+    if !passes(s[from]) {
+        return from;
+    }
+    let mut rest = &s[from + 1..];
     while let Some((block, after)) = rest.split_first_chunk::<32>() {
         if !block.iter().fold(true, |all, b| all & passes(*b)) {
             break;

@@ -1,33 +1,38 @@
 -- Laws of names and of tables of names.
 use Rattle.std.specs.Prelude.{Option, Some, None, IfSome}
-use lib.Pointwise.{pointwise}
 use Prim.Native.Nat.{ℕ, ◌+◌, ◌≤◌, ◌<◌}
 use mathlib.Core.Path.{◌≡◌, refl, ◌∙◌, ap}
 use mathlib.Core.List.{List, [], ◌∷◌}
 use mathlib.Core.Bool.{Bool, true, false, ◌&&◌, and-false}
+use native.Mathlib.Numerals.{add-one}
 use native.Mathlib.Omega.{arith}
-use lib.Dec.{eqb, ltb}
-use lib.ListN.{length, get_or, take, drop}
-use lib.Seq.{get_or-drop, get_or-take, drop-drop}
-use borrow.Author.Tests.{lt-ltb, le-ltb, le-leb, lt-leb, ne_eqb}
+use lib.Dec.{ltb}
+use lib.ListN.{length, get_or, take, drop, drop_of_length-le}
+use lib.Seq.{get_or-drop, get_or-take, drop-cons, drop-drop}
+use borrow.Author.Tests.{lt-ltb, le-ltb, le-leb, lt-leb, eq-eqb, ne_eqb}
 use Rattle.lists.specs.Bytes.{word32}
 use Rattle.standard.proofs.Skips.{records_unfold}
 use Rattle.standard.specs.declared.names.Found.{Found}
 use Rattle.standard.specs.Names.{Name, name, stands, longer, found_as, found_of, found_where, longest_from, begins, records_from, records}
 
--- A word stands at the front of some bytes where it is as many of them.
-pub front_stands : (w s : List ℕ) → pointwise eqb w (take (length w) s) ≡ stands w s
-unfolding stands
-front_stands [] s = refl
-front_stands (a ∷ w) [] = refl
-front_stands (a ∷ w) (b ∷ s) = ap (λ (rest : Bool). eqb a b && rest) (front_stands w s)
+-- A word and what it should stand at the front of, both from i on: the word is used up, the bytes are, they differ, they agree.
+module _ (w s : List ℕ) (i : ℕ) where
+  pub stands_end : length w ≤ i → stands (drop i w) (drop i s) ≡ true
+  unfolding stands
+  stands_end h = rw (drop_of_length-le w h)
 
--- It doesn't where they are fewer.
-pub stands_short : (w s : List ℕ) → length s < length w → stands w s ≡ false
-unfolding stands
-stands_short [] s h = absurd (omega arith)
-stands_short (a ∷ w) [] h = refl
-stands_short (a ∷ w) (b ∷ s) h = rw (stands_short w s (omega arith)) (and-false (eqb a b))
+  module _ (h : i < length w) where
+    pub stands_short : length s ≤ i → stands (drop i w) (drop i s) ≡ false
+    unfolding stands
+    stands_short k = rw (drop-cons w i 0 h, drop_of_length-le s k)
+
+    pub stands_other : i < length s → (get_or w i 0 ≡ get_or s i 0 → ⊥) → stands (drop i w) (drop i s) ≡ false
+    unfolding stands
+    stands_other k e = rw (drop-cons w i 0 h, drop-cons s i 0 k, ne_eqb (get_or w i 0) (get_or s i 0) e)
+
+    pub stands_same : i < length s → get_or w i 0 ≡ get_or s i 0 → stands (drop i w) (drop i s) ≡ stands (drop (i + 1) w) (drop (i + 1) s)
+    unfolding stands
+    stands_same k e = rw (add-one i, drop-cons w i 0 h, drop-cons s i 0 k, eq-eqb (get_or w i 0) (get_or s i 0) e)
 
 -- The longer of what was found and another name: it is no longer, it stands there, it doesn't.
 module _ (f : Found) (n : Name) (s : List ℕ) where

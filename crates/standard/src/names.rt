@@ -43,14 +43,20 @@ pub struct Found {
     pub reference: CharRef,
 }
 
-// Whether a word stands at the front of s. By `get` and `==`: `starts_with` was tried, and took more time.
+// Whether a word stands at the front of s. Byte by byte, and no `get` or `starts_with`: of a table's words most differ at the first, and these look
+// at the lengths before.
 fn stands_at(word: &[u8], s: &[u8]) -> bool
     ensures { result ≡ stands word.now s.now }
 {
-    match s.get(..word.len()) {
-        Some(front) => word == front,
-        None => false,
+    for i in 0..word.len() {
+        if s.len() <= i {
+            return false;
+        }
+        if word[i] != s[i] {
+            return false;
+        }
     }
+    true
 }
 
 // The length of what was found, 0 where nothing was. A match and no `map_or`: what a closure gave is not told to a law that speaks of this.
@@ -69,11 +75,11 @@ fn longer_of(found: Option<Found>, record: &Record<'_>, s: &[u8]) -> Option<Foun
     ensures longer { found_of result ≡ longer (found_of found) (name_of «record».now) s.now }
     ensures some { IfSome result (λ f. 0 < f.len) }
 {
-    let len = record.word.len();
-    if len <= len_of(found) {
+    if !stands_at(record.word, s) {
         return found;
     }
-    if !stands_at(record.word, s) {
+    let len = record.word.len();
+    if len <= len_of(found) {
         return found;
     }
     Some(Found {

@@ -2,17 +2,29 @@ use Rattle.std.specs.Prelude.{not}
 use mathlib.Core.Path.{sym, ◌∙◌, ap}
 use mathlib.Core.Bool.{true, ◌&&◌}
 use native.Mathlib.Omega.{arith}
-use lib.ListN.{length}
+use lib.ListN.{length, length-take, length-drop}
 use Rattle.std.proofs.Common.{rules}
 use Rattle.std.proofs.lemmas.Iterator.{YieldsList-from_slice}
 use Rattle.std.proofs.lemmas.Iterator.Consumers.{fold_from_yields_List}
 use Rattle.std.proofs.lemmas.Iterator.Search.{position_from_yields_List}
-use Rattle.lists.proofs.Fronts.{front-none}
-use Rattle.runs.proofs.Testing.{block-passes, first-fails}
+use Rattle.lists.proofs.Fronts.{front-none, front_stops}
+use Rattle.runs.proofs.Testing.{run_begins, block-passes, first-fails}
 use Rattle.runs.proofs.run_end.Goals as goal
 
 pub returns-then-s-from : goal.returns-then-s-from
 returns-then-s-from g c = λ test tested. let a = c.args in omega (arith, ap length (front-none test a.s.now a.from (omega arith)))
+
+pub returns-then-not-passes : goal.returns-then-not-passes
+returns-then-not-passes g c = λ test tested.
+    let a = c.args in
+    let fails = sym (tested _ _ c.passes.ensures) ∙ c.if-not-passes.true in
+    omega (arith, ap length (front_stops test a.s.now a.from (omega arith) fails))
+
+pub loop-block-init : goal.loop-block-init
+loop-block-init g c = (
+  simp (length-take, length-drop) (omega arith),
+  λ test tested. (run_begins test c.args.s.now c.args.from (omega arith) (sym (tested _ _ c.passes.ensures) ∙ c.if-not-passes.false)).1,
+)
 
 pub loop-block-preserved : goal.loop-block-preserved
 loop-block-preserved g c =

@@ -1,19 +1,31 @@
-use Prim.Native.Nat.{ℕ, ◌-◌}
-use mathlib.Core.Path.{◌≡◌, sym, ◌∙◌, ap}
-use mathlib.Core.Logic.{inl, inr}
+use mathlib.Core.Path.{refl, ◌∙◌, sym}
 use native.Mathlib.Omega.{arith}
-use lib.Dec.{eqb}
-use lib.ListN.{length, take}
-use lib.Pointwise.{pointwise}
-use Rattle.standard.proofs.Lookup.{front_stands, stands_short}
+use Rattle.standard.proofs.Lookup.{stands_end, stands_short, stands_other, stands_same}
 use Rattle.standard.proofs.names.stands_at.Goals as goal
 
-pub returns-in-Some : goal.returns-in-Some
-returns-in-Some c =
-    let word = c.args.word.now in
-    let front : c.in-Some.front.now ≡ take (length word) c.args.s.now =
-    c.in-Some.ensures.lookup.0.2 ∙ ap (λ (n : ℕ). take n c.args.s.now) (let e : length word - 0 ≡ length word = omega arith in e) in
-    c.eq.ensures ∙ ap (pointwise eqb word) front ∙ front_stands word c.args.s.now
+pub loop-i-init : goal.loop-i-init
+loop-i-init c = refl
 
-pub returns-in-None : goal.returns-in-None
-returns-in-None c = sym (stands_short _ _ (elim c.in-None.ensures.lookup.0 [ inl below ↦ absurd (omega arith) | inr short ↦ short ]))
+pub returns-then-s-i : goal.returns-then-s-i
+returns-then-s-i c =
+    let a = c.args in
+    let l = c.loop-i in
+    sym (l.invariant ∙ stands_short a.word.now a.s.now l.i (omega arith) (omega arith))
+
+pub returns-then-word-i : goal.returns-then-word-i
+returns-then-word-i c =
+    let a = c.args in
+    let l = c.loop-i in
+    sym (l.invariant ∙ stands_other a.word.now a.s.now l.i (omega arith) (omega arith) c.if-word-i.true)
+
+pub loop-i-preserved : goal.loop-i-preserved
+loop-i-preserved c =
+    let a = c.args in
+    let l = c.loop-i in
+    l.invariant ∙ stands_same a.word.now a.s.now l.i (omega arith) (omega arith) c.if-word-i.false
+
+pub returns : goal.returns
+returns c =
+    let a = c.args in
+    let l = c.loop-i in
+    sym (l.invariant ∙ stands_end a.word.now a.s.now l.i (omega arith))
