@@ -1,4 +1,6 @@
 // The rooms that a call is lent. They are marked before it, so that they show what it touched.
+ghost use Rattle.std.specs.Prelude.{◌*◌, ◌≡◌, ◌≤◌, length, take, drop};
+
 use crate::numbers::split_within;
 use decoder::{Decoded, Fed, Stream, decode_whole};
 use standard::Context;
@@ -45,7 +47,12 @@ impl Rooms<'_> {
     }
 
     // What a call wrote that counts so many bytes and errors.
-    pub(crate) fn written(&self, bytes: u32, errors: u32) -> Written<'_> {
+    pub(crate) fn written(&self, bytes: u32, errors: u32) -> Written<'_>
+        ensures text { result.text.now ≡ take bytes self.now.text.now }
+        ensures text_left { result.text_left.now ≡ drop bytes self.now.text.now }
+        ensures errors { result.errors.now ≡ take (2 * errors) self.now.errors.now }
+        ensures errors_left { result.errors_left.now ≡ drop (2 * errors) self.now.errors.now }
+    {
         let (text, text_left) = split_within(&*self.text, bytes as usize);
         let (errors, errors_left) = split_within(&*self.errors, 2 * errors as usize);
         Written {
@@ -57,7 +64,10 @@ impl Rooms<'_> {
     }
 
     // The same of a call that writes with the answers 0 and 7 alone.
-    pub(crate) fn written_with(&self, answer: u32, bytes: u32, errors: u32) -> Written<'_> {
+    pub(crate) fn written_with(&self, answer: u32, bytes: u32, errors: u32) -> Written<'_>
+        ensures text { length result.text.now ≤ length self.now.text.now }
+        ensures errors { length result.errors.now ≤ length self.now.errors.now }
+    {
         match answer {
             0 | 7 => self.written(bytes, errors),
             _ => self.written(0, 0),

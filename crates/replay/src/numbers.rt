@@ -1,5 +1,5 @@
 // Numbers that bytes make, the lowest first, and parts of slices.
-ghost use Rattle.std.specs.Prelude.{◌+◌, ◌≤◌, length};
+ghost use Rattle.std.specs.Prelude.{◌+◌, ◌≡◌, ◌≤◌, length, take, drop};
 
 // The number of two bytes.
 pub(crate) fn short_at(s: &[u8], at: usize) -> u16
@@ -16,6 +16,9 @@ pub(crate) fn number_at(s: &[u8], at: usize) -> u32
 }
 
 // The first elements, so many or all where there are no more, and the others.
-pub(crate) fn split_within<T>(s: &[T], count: usize) -> (&[T], &[T]) {
+pub(crate) fn split_within<T>(s: &[T], count: usize) -> (&[T], &[T])
+    ensures front { result.0.now ≡ take count s.now }
+    ensures back { result.1.now ≡ drop count s.now }
+{
     s.split_at(count.min(s.len()))
 }

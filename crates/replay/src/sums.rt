@@ -1,4 +1,5 @@
 // Sums that depend on each number and on their order.
+ghost use Rattle.std.specs.Prelude.{◌≡◌, ◌≤◌, length, take};
 
 #[derive(Clone, Copy, Default)]
 pub(crate) struct Sum(pub u32);
@@ -32,7 +33,10 @@ pub(crate) fn low(number: usize) -> u32 {
 }
 
 // The bytes before the zeros at the end.
-pub(crate) fn trimmed(bytes: &[u8]) -> &[u8] {
+pub(crate) fn trimmed(bytes: &[u8]) -> &[u8]
+    ensures bound { length result.now ≤ length bytes.now }
+    ensures front { result.now ≡ take (length result.now) bytes.now }
+{
     match bytes.iter().rposition(|byte| *byte != 0) {
         Some(last) => &bytes[..=last],
         None => &[],

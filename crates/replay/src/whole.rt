@@ -88,7 +88,14 @@ pub(crate) fn replay_whole<W: Write>(
 ) -> io::Result<()> {
     match Call::of(kind) {
         Some(Call::Decode(context)) => replay_decode(output, context, source, rooms),
-        Some(Call::Escape(mode)) => replay_escape(output, mode, source, rooms),
+        Some(Call::Escape(mode)) => {
+            // It has no errors, so it is lent no room for them, which would be marked and looked at.
+            let mut rooms = Rooms {
+                text: &mut *rooms.text,
+                errors: &mut [],
+            };
+            replay_escape(output, mode, source, &mut rooms)
+        }
         Some(Call::Check(context)) => replay_check(output, context, source, before, rooms),
         None => output.write_all(b"another kind of record\n"),
     }

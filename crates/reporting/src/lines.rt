@@ -21,11 +21,21 @@ impl Writer<'_> {
         self.at = rooms::copy(text, &mut *self.out, at);
     }
 
+    // One byte, stored here: most of the lines are single digits, for each of which `rooms::copy` would go through its blocks.
+    fn byte(&mut self, byte: u8)
+        ensures { Wrote self.old (byte ∷ []) self.new }
+    {
+        if self.at < self.out.len() {
+            self.out[self.at] = byte;
+            self.at += 1;
+        }
+    }
+
     fn digit(&mut self, n: u32)
         requires { n < 10 }
         ensures { Wrote self.old (digit_of n ∷ []) self.new }
     {
-        self.text(&[b'0' + n as u8]);
+        self.byte(b'0' + n as u8);
     }
 
     // A number in decimal: the digits of its tenth, if it has more than one, and then its last.
@@ -44,9 +54,9 @@ impl Writer<'_> {
         ensures { Wrote self.old (line (pair_of a b)) self.new }
     {
         self.decimal(a);
-        self.text(b" ");
+        self.byte(b' ');
         self.decimal(b);
-        self.text(b"\n");
+        self.byte(b'\n');
     }
 
     // A line for each two numbers.
@@ -64,11 +74,11 @@ impl Writer<'_> {
     fn after_text(&mut self, numbers: &[u32], word: &[u8], place: u32)
         ensures { Wrote self.old (after_text numbers.now word.now place) self.new }
     {
-        self.text(b"\n");
+        self.byte(b'\n');
         self.pairs(numbers);
         self.text(word);
         self.decimal(place);
-        self.text(b"\n");
+        self.byte(b'\n');
     }
 
     // The line of a source that is refused.

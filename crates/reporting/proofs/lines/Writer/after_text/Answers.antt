@@ -7,5 +7,5 @@ use Rattle.reporting.proofs.lines.Writer.after_text.Goals as goal
 pub returns : goal.returns
 returns c =
     rw (word_line c.args.word.now (decimal c.args.place))
-    (wrote_join c.text.ensures
-    (wrote_join c.pairs.ensures (wrote_join c.text-2.ensures (wrote_join c.decimal.ensures c.text-3.ensures))))
+    (wrote_join c.byte.ensures
+    (wrote_join c.pairs.ensures (wrote_join c.text.ensures (wrote_join c.decimal.ensures c.byte-2.ensures))))

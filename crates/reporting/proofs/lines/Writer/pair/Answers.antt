@@ -6,4 +6,4 @@ use Rattle.reporting.proofs.lines.Writer.pair.Goals as goal
 pub returns : goal.returns
 returns c =
     rw (pair_line c.args.a c.args.b)
-    (wrote_join c.decimal.ensures (wrote_join c.text.ensures (wrote_join c.decimal-2.ensures c.text-2.ensures)))
+    (wrote_join c.decimal.ensures (wrote_join c.byte.ensures (wrote_join c.decimal-2.ensures c.byte-2.ensures)))
