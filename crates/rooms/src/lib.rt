@@ -13,11 +13,19 @@ pub fn copy(from: &[u8], to: &mut [u8], at: usize) -> usize
         return at;
     }
     let count = (to.len() - at).min(from.len());
-    if count == 0 {
-        return at;
+    let mut rest = &from[..count];
+    let mut next = at;
+    // In blocks, and the rest byte by byte: a `copy_from_slice` of any length becomes a call of memmove, which the archive for C would then need.
+    while let Some((block, after)) = rest.split_first_chunk::<32>() {
+        to[next..next + 32].copy_from_slice(block);
+        next += 32;
+        rest = after;
     }
-    to[at..at + count].copy_from_slice(&from[..count]);
-    at + count
+    for byte in rest {
+        to[next] = *byte;
+        next += 1;
+    }
+    next
 }
 
 // Writes as many of the numbers as fit whole into `to` from `at` on, and answers the place after them; all else stays.
