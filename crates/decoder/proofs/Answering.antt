@@ -214,16 +214,21 @@ reads_of {context = context} {s} {w = w} n is place_is wrote =
     record { answered = rw (f, is, place_is); texts = wrote.texts.new_is; numbers_of = wrote.numbers_of.new_is }
 
 -- Of a covered source at most 65,536 bytes and errors are written, each error as two numbers.
-pub wrote-few : {A : Type 0} {each : ℕ} {lay : List ℕ → List A} → Laying each lay → 0 < each → (context : Context) (s : List ℕ)
+pub wrote-few : {A : Type 0} {each : ℕ} {lay : List ℕ → List A} → Laying each lay → (context : Context) (s : List ℕ)
     {text text' : List ℕ} {errors errors' : List A} {w e : ℕ} → length s ≤ 65536
     → WroteBy lay (decode builtin context s) text 0 text' w errors 0 errors' e
-    → (w ≤ 65536) × (e / each / 2 ≡ length (decode builtin context s).errors) × (length (decode builtin context s).errors ≤ 65536)
-wrote-few {each = each} laid some context s {e = e} h wrote =
+    → (w ≤ 65536) × (e ≡ each * (2 * length (decode builtin context s).errors)) × (length (decode builtin context s).errors ≤ 65536)
+wrote-few {each = each} laid context s h wrote =
     let l = (decode builtin context s).errors in
     let n : length (numbers l) ≡ 2 * length l = omega (arith, numbers-length l) in
-    let k : e ≡ each * (2 * length l) = omega (arith, wrote.numbers_of.next_is, laid.long (numbers l) ∙ ap (λ (m : ℕ). each * m) n) in
-    let d : e / each ≡ 2 * length l = ap (λ (m : ℕ). m / each) k ∙ mul-div_cancel_left (2 * length l) some in (
+    let k = laid.long (numbers l) ∙ ap (λ (m : ℕ). each * m) n in (
       omega (arith, wrote.texts.next_is, text_fits builtin context s builtin_narrow),
-      omega (arith, d),
+      omega (arith, wrote.numbers_of.next_is, k),
       omega (arith, errors_fit builtin context s),
     )
+
+-- Elements that stand for n errors are counted as n: by how many each number takes, and by two numbers each.
+pub counted-few : {each taken n e : ℕ} → 0 < each → taken ≡ each → e ≡ each * (2 * n) → e / taken / 2 ≡ n
+counted-few {each} {n = n} {e} some same k =
+    let d : e / each ≡ 2 * n = ap (λ (m : ℕ). m / each) k ∙ mul-div_cancel_left (2 * n) some in
+    ap (λ (m : ℕ). e / m / 2) same ∙ omega (arith, d)

@@ -101,6 +101,8 @@ use Rattle.standard.proofs.characters.read_char as ReadChar
 use Rattle.standard.proofs.names.longest_name as LongestName
 use Rattle.standard.proofs.names.begins_name as BeginsName
 use Rattle.standard.proofs.table.builtin_names as BuiltinNames
+use Rattle.standard.proofs.table.builtin_table as BuiltinTable
+use Rattle.standard.proofs.records.Records.of as RecordsOf
 use Rattle.runs.proofs.ascii_end as AsciiEnd
 use Rattle.runs.proofs.ordinary_end as OrdinaryEnd
 use Rattle.runs.proofs.plain_end as PlainEnd
@@ -127,7 +129,8 @@ use Rattle.demands.proofs.StreamTables as Chunks
 use Rattle.demands.proofs.Cutting as Cutting
 use Rattle.demands.proofs.Held as Held
 use Rattle.demands.proofs.Held.{Phase}
-use Rattle.demands.proofs.Settled.{Settled, settled}
+use Rattle.demands.proofs.Settled.{Settled, SettledBytes, settled}
+use Rattle.demands.proofs.Unique as Unique
 use Rattle.demands.proofs.MarkedCases as Marked
 
 -- DEMAND 1: TOTAL. The table of answers: each is given exactly when its line says, then the rest of the line is so, and no other answer is given.
@@ -461,6 +464,14 @@ begins-name_settled = settled _ _ (λ κs a. tt) (λ κs a x e p. (p, refl))
 pub builtin-names_settled : Settled (ended_of 0 BuiltinNames.Kinds.ps BuiltinNames.Kinds.r) BuiltinNames.Reads.Pre BuiltinNames.Reads.Post
     (λ κs e. [])
 builtin-names_settled = settled _ _ (λ κs a. tt) (λ κs a x e p. (p, refl))
+
+pub builtin-table_settled : SettledBytes (ended_of 1 BuiltinTable.Kinds.ps BuiltinTable.Kinds.r) BuiltinTable.Reads.Pre BuiltinTable.Reads.Post
+    (λ κs x. x.now)
+builtin-table_settled = record { total = λ κs a. tt; unique = Unique.builtin_table }
+
+pub records-of_settled : SettledBytes (ended_of 1 RecordsOf.Kinds.ps RecordsOf.Kinds.r) RecordsOf.Reads.Pre RecordsOf.Reads.Post
+    (λ κs x. x.rest.now)
+records-of_settled = record { total = λ κs a. tt; unique = Unique.records }
 
 pub ascii-end_settled : Settled (ended_of 1 AsciiEnd.Kinds.ps AsciiEnd.Kinds.r) AsciiEnd.Reads.Pre AsciiEnd.Reads.Post (λ κs e. [])
 ascii-end_settled = settled _ _ (λ κs a. tt) (λ κs a x e p. (p, refl))

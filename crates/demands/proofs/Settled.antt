@@ -27,3 +27,13 @@ settled result contents total is = record {
   total = total;
   unique = λ κs a x y e f p q. let u = is κs a x e p in let v = is κs a y f q in (u.0 ∙ sym v.0, u.1 ∙ sym v.1);
 }
+
+-- Of what a function's result points at, the bytes that are read there.
+abbrev pub Read : Ended → Type 0
+Read function = (κs : Lifetimes function) → Res function.signature κs → List ℕ
+
+-- The same of a function that hands out bytes where they lie, and is lent nothing to write to: one list of bytes alone fits, wherever it lies.
+pub record SettledBytes (function : Ended) (requires : Requires function) (ensures : Ensures function) (read : Read function) : Type 0 where
+  pub total : (κs : Lifetimes function) (a : Args function.signature κs) → requires κs a
+  pub unique : (κs : Lifetimes function) (a : Args function.signature κs) (x y : Res function.signature κs) (e f : AtExit function κs)
+      → ensures κs a x e → ensures κs a y f → read κs x ≡ read κs y

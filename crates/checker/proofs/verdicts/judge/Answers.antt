@@ -1,5 +1,8 @@
+use mathlib.Core.Path.{sym, ◌∙◌}
 use native.Mathlib.Omega.{arith}
+use borrow.Author.Tests.{eqb-true, not-false}
 use Rattle.std.proofs.lemmas.Bool.Decides.{nat_tests}
+use Rattle.lists.proofs.Choice.{and_true}
 use Rattle.checker.proofs.RowByRow.{row_stops, row_on, rows_plain, some_remains, none_remains}
 use Rattle.checker.proofs.verdicts.judge.Goals as goal
 
@@ -18,7 +21,10 @@ pub returns-then-ne : goal.returns-then-ne
 returns-then-ne g c =
     some_remains (rows_plain c.all.invariant _ c.plain_rows-plain.ensures) (omega arith) (λ x y z. grind (arith, nat_tests))
 
+-- Each of the three equations is what the code's comparison said of those two places.
 pub returns : goal.returns
 returns g c =
-    none_remains (rows_plain c.all.invariant _ c.plain_rows-plain.ensures) (omega arith) (grind (arith, nat_tests)) (grind (arith, nat_tests))
-    (grind (arith, nat_tests))
+    let same = and_true _ _ (not-false _ (sym c.ne.ensures ∙ c.if-ne.false)) in
+    let others = and_true _ _ same.1 in
+    none_remains (rows_plain c.all.invariant _ c.plain_rows-plain.ensures) (omega arith) (eqb-true _ _ same.0) (eqb-true _ _ others.0)
+    (omega (arith, eqb-true _ _ others.1))

@@ -1,17 +1,15 @@
-use Prim.Native.Nat.{ℕ, ◌/◌}
-use mathlib.Core.Path.{◌∙◌, ap}
 use native.Mathlib.Omega.{arith}
-use Rattle.decoder.proofs.Answering.{reads_of, wrote-few}
+use Rattle.decoder.proofs.Answering.{reads_of, wrote-few, counted-few}
 use Rattle.decoder.proofs.whole.read_covered.Goals as goal
 
 pub overflow_cast-result : goal.overflow_cast-result
 overflow_cast-result g c =
-    omega (arith, wrote-few g.met.T.Laid.laying g.met.T.Laid.some c.args.context c.args.s.now c.requires.0 c.decode_pieces-ends.ensures)
+    omega (arith, wrote-few g.met.T.Laid.laying c.args.context c.args.s.now c.requires.0 c.decode_pieces-ends.ensures)
 
 pub overflow_cast-result-2 : goal.overflow_cast-result-2
 overflow_cast-result-2 g c =
-    let few = wrote-few g.met.T.Laid.laying g.met.T.Laid.some c.args.context c.args.s.now c.requires.0 c.decode_pieces-ends.ensures in
-    rw c.EACH.ensures (omega (arith, few.1, few.2))
+    let few = wrote-few g.met.T.Laid.laying c.args.context c.args.s.now c.requires.0 c.decode_pieces-ends.ensures in
+    omega (arith, counted-few g.met.T.Laid.some c.EACH.ensures few.1, few.2)
 
 pub end_named-requires : goal.end_named-requires
 end_named-requires g c = c.requires.0
@@ -19,5 +17,5 @@ end_named-requires g c = c.requires.0
 pub returns : goal.returns
 returns g c =
     let w = c.decode_pieces-ends.ensures in
-    let few = wrote-few g.met.T.Laid.laying g.met.T.Laid.some c.args.context c.args.s.now c.requires.0 w in
-    reads_of _ (ap (λ (each : ℕ). c.decode_pieces-ends.result.errors / each / 2) c.EACH.ensures ∙ few.1) c.end_named.ensures w
+    let few = wrote-few g.met.T.Laid.laying c.args.context c.args.s.now c.requires.0 w in
+    reads_of _ (counted-few g.met.T.Laid.some c.EACH.ensures few.1) c.end_named.ensures w
