@@ -18,7 +18,8 @@ pub(crate) struct Copied {
     pub text: usize,
 }
 
-// A run of plain bytes is copied while 64 bytes are free before each.
+// A run of plain bytes is copied while 64 bytes are free before each. It is inlined, since most runs are shorter than a call.
+#[inline(always)]
 pub(crate) fn copy_run(
     context: Context,
     chunk: &[u8],

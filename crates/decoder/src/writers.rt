@@ -140,7 +140,8 @@ fn put_codes(errors: &mut [u32], at: usize, first: u32, second: u32, place: u32)
     put_code(errors, next, second, place)
 }
 
-// Writes a piece that stands at place.
+// Writes a piece that stands at place. It is inlined, since a piece that is handed over in memory takes longer than its bytes.
+#[inline(always)]
 pub(crate) fn put_piece(
     text: &mut [u8],
     errors: &mut [u32],

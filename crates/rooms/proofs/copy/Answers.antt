@@ -31,7 +31,7 @@ loop-block-preserved c =
     let parts = c.in-Some.ensures.cases in
     let more : l.next + 32 - a.at ≡ done + 32 = omega (arith, l.invariant.2) in
     let more' : done + 32 ≡ l.next + 32 - a.at = sym more in
-    let block : c.copy_from_slice.new.self ≡ take 32 (drop done all) = c.copy_from_slice.ensures.after ∙ parts.0 ∙ ap (take 32) l.invariant.1 in
+    let block : c.copy_from_slice-in-Some.new.self ≡ take 32 (drop done all) = c.copy_from_slice-in-Some.ensures.after ∙ c.copy_from_slice.ensures.after ∙ parts.0 ∙ ap (take 32) l.invariant.1 in
     let size : length (take 32 (drop done all)) ≡ 32 = rw (sym l.invariant.1) (simp length-take (omega (arith, parts.2))) in
     let step = put_part {old = l.to} {at = l.next} {next = l.next + 32} block (omega (arith, size)) (omega arith) in (
       rw more (put_next all done 32 l.invariant.0 step),
