@@ -36,15 +36,12 @@ fn meet_byte(text: &[u8], at: usize, b: u32) -> Option<usize>
     Some(at + 1)
 }
 
-// Meets a character in text.
+// Meets a character in text by the reader of one character.
 #[tactic(auto, using(crate::proofs::Meetings::meet_chars))]
-fn meet_char(text: &[u8], at: usize, c: u32) -> Option<usize>
+fn meet_read(text: &[u8], at: usize, c: u32) -> Option<usize>
     requires { at ≤ length text.now }
     ensures { result ≡ met (encode c) text.now at }
 {
-    if c < 0x80 {
-        return meet_byte(text, at, c);
-    }
     let CharRead::Char { value, len } = read_char(&text[at..]) else {
         return None;
     };
@@ -52,6 +49,18 @@ fn meet_char(text: &[u8], at: usize, c: u32) -> Option<usize>
         return None;
     }
     Some(at + len)
+}
+
+// Meets a character in text. It is inlined, since ASCII takes less than a call.
+#[inline(always)]
+fn meet_char(text: &[u8], at: usize, c: u32) -> Option<usize>
+    requires { at ≤ length text.now }
+    ensures { result ≡ met (encode c) text.now at }
+{
+    if c < 0x80 {
+        return meet_byte(text, at, c);
+    }
+    meet_read(text, at, c)
 }
 
 // Meets the characters of a reference in text.
@@ -110,7 +119,9 @@ pub(crate) fn meet_codes<N: Numbers>(
     requires { at ≤ length (N.list errors) }
     ensures { result ≡ met (numbers (placed place (codes_of unclosed code))) (N.list errors) at }
 {
-    let missing = if unclosed { 2 } else { 0 };
-    let second = meet_code(errors, at, missing, place)?;
+    if !unclosed {
+        return meet_code(errors, at, code, place);
+    }
+    let second = meet_code(errors, at, 2, place)?;
     meet_code(errors, second, code, place)
 }
