@@ -19,9 +19,8 @@ pub fn copy(from: &[u8], to: &mut [u8], at: usize) -> usize
     let mut next = at;
     // In blocks, and the rest byte by byte: a `copy_from_slice` of any length becomes a call of memmove, which the archive for C would then need.
     while let Some((block, after)) = rest.split_first_chunk::<32>() {
-        // Through an array, since the compiler doesn't know that the two rooms are apart.
-        let mut bytes = [0; 32];
-        bytes.copy_from_slice(block);
+        // By value, since the compiler doesn't know that the two rooms are apart.
+        let bytes = *block;
         to[next..next + 32].copy_from_slice(&bytes);
         next += 32;
         rest = after;

@@ -22,6 +22,15 @@ loop-block-init c =
     let none : a.at - a.at ≡ 0 = omega arith in
     (rw none (put_none _ _), rw none refl, omega arith, simp length-take (omega (arith, c.min-count.ensures)))
 
+pub slice_bounds-copy_from_slice-end-in-Some : goal.slice_bounds-copy_from_slice-end-in-Some
+slice_bounds-copy_from_slice-end-in-Some c = let parts = c.in-Some.ensures.cases in rw parts.0 (simp length-take (omega (arith, parts.2)))
+
+pub copy_from_slice-requires : goal.copy_from_slice-requires
+copy_from_slice-requires c =
+    let parts = c.in-Some.ensures.cases in
+    let size : length c.in-Some.block.now ≡ 32 = rw parts.0 (simp length-take (omega (arith, parts.2))) in
+    rw size (simp (length-take, length-drop) (omega (arith, parts.2, c.loop-block.invariant.3)))
+
 pub loop-block-preserved : goal.loop-block-preserved
 loop-block-preserved c =
     let a = c.args in
@@ -31,7 +40,7 @@ loop-block-preserved c =
     let parts = c.in-Some.ensures.cases in
     let more : l.next + 32 - a.at ≡ done + 32 = omega (arith, l.invariant.2) in
     let more' : done + 32 ≡ l.next + 32 - a.at = sym more in
-    let block : c.copy_from_slice-in-Some.new.self ≡ take 32 (drop done all) = c.copy_from_slice-in-Some.ensures.after ∙ c.copy_from_slice.ensures.after ∙ parts.0 ∙ ap (take 32) l.invariant.1 in
+    let block : c.copy_from_slice.new.self ≡ take 32 (drop done all) = c.copy_from_slice.ensures.after ∙ parts.0 ∙ ap (take 32) l.invariant.1 in
     let size : length (take 32 (drop done all)) ≡ 32 = rw (sym l.invariant.1) (simp length-take (omega (arith, parts.2))) in
     let step = put_part {old = l.to} {at = l.next} {next = l.next + 32} block (omega (arith, size)) (omega arith) in (
       rw more (put_next all done 32 l.invariant.0 step),
