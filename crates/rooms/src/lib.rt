@@ -1,12 +1,27 @@
 // Writing into lent rooms of bytes.
 #![tactic(auto)]
 
-ghost use Rattle.std.specs.Prelude.{◌-◌, ◌/◌, length, take};
+ghost use Rattle.std.specs.Prelude.{◌≤◌, ◌+◌, ◌-◌, ◌/◌, length, take};
 ghost use Rattle.lists.specs.Bytes.{fours};
 ghost use Rattle.lists.specs.Rooms.{Put};
 
-// Copies as many bytes of `from` as fit into `to` from `at` on, and answers the place after them; all else stays. It is inlined, since most runs are
-// shorter than a call.
+// Writes bytes one by one, and answers the place after them; all else stays.
+#[inline(always)]
+fn put_bytes(from: &[u8], to: &mut [u8], at: usize) -> usize
+    requires { at + length from.now ≤ length to.old }
+    ensures { Put to.old at from.now to.new result }
+{
+    let mut next = at;
+    for byte in from {
+        to[next] = *byte;
+        next += 1;
+    }
+    next
+}
+
+// Copies as many bytes of `from` as fit into `to` from `at` on, and answers the place after them; all else stays. In blocks of 32, by value, since the
+// compiler doesn't know that the two are apart; and no `copy_from_slice`, which becomes a call of memmove that the archive for C would then need. It is
+// inlined, since most runs are shorter than a call.
 #[inline(always)]
 pub fn copy(from: &[u8], to: &mut [u8], at: usize) -> usize
     ensures { Put to.old at (take (length to.old - at) from.now) to.new result }
@@ -17,19 +32,12 @@ pub fn copy(from: &[u8], to: &mut [u8], at: usize) -> usize
     let count = (to.len() - at).min(from.len());
     let mut rest = &from[..count];
     let mut next = at;
-    // In blocks, and the rest byte by byte: a `copy_from_slice` of any length becomes a call of memmove, which the archive for C would then need.
     while let Some((block, after)) = rest.split_first_chunk::<32>() {
-        // By value, since the compiler doesn't know that the two rooms are apart.
-        let bytes = *block;
-        to[next..next + 32].copy_from_slice(&bytes);
-        next += 32;
+        let block = *block;
+        next = put_bytes(&block, to, next);
         rest = after;
     }
-    for byte in rest {
-        to[next] = *byte;
-        next += 1;
-    }
-    next
+    put_bytes(rest, to, next)
 }
 
 // Writes as many of the numbers as fit whole into `to` from `at` on, and answers the place after them; all else stays.

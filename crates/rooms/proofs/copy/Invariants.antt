@@ -1,4 +1,4 @@
--- The invariants: what was written is the bytes between at and next, and rest is what follows; then that with so many bytes of rest.
+-- The invariant: what was written is the bytes between at and next, and rest is what follows.
 use Prim.Native.Nat.{◌≤◌, ◌+◌, ◌-◌}
 use mathlib.Core.Path.{◌≡◌}
 use lib.ListN.{length, take, drop}
@@ -12,6 +12,3 @@ invariant-loop-block l =
 
 abbrev pub decreases-loop-block : goal.decreases-loop-block
 decreases-loop-block l = length l.rest
-
-abbrev pub invariant-loop-byte : goal.invariant-loop-byte
-invariant-loop-byte l = Put l.initial.to l.initial.next (take l.byte-index l.byte-items) l.to l.next
