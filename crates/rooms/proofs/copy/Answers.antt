@@ -59,7 +59,7 @@ returns c =
     let all = take n.result c.args.from.now in
     let done = l.next - c.args.at in
     let more = length (drop done all) in
-    let rest : Put l.to l.next (take more (drop done all)) c.put_bytes.new.to c.put_bytes.result =
-    rw (take_all more (drop done all) (omega arith)) (rw l.invariant.1 at c.put_bytes.ensures) in
+    let last : Put l.to l.next l.rest.now c.put_bytes.new.to c.put_bytes.result = c.put_bytes.ensures in
+    let rest = rw (sym (take_all more (drop done all) (omega arith))) at (rw l.invariant.1 at last) in
     let whole = take_all (done + more) all (simp length-drop (omega arith)) in
     rw (whole, n.ensures, take_min) at (put_next all done more l.invariant.0 rest)
