@@ -21,7 +21,7 @@ fn written_as(c: u32) -> u32
     0xFFFD
 }
 
-// Meets a byte in text, which is all that ASCII has: so it is met without the reader of one character.
+// Meets a byte in text. An ASCII character is one byte, so it needs no reader of one character.
 #[tactic(auto, using(crate::proofs::Meetings::meet_numbers))]
 fn meet_byte(text: &[u8], at: usize, b: u32) -> Option<usize>
     requires { at ≤ length text.now }
@@ -51,7 +51,7 @@ fn meet_read(text: &[u8], at: usize, c: u32) -> Option<usize>
     Some(at + len)
 }
 
-// Meets a character in text. It is inlined, since ASCII takes less than a call.
+// Meets a character in text. It is inlined, since a call takes longer than ASCII does.
 #[inline(always)]
 fn meet_char(text: &[u8], at: usize, c: u32) -> Option<usize>
     requires { at ≤ length text.now }

@@ -36,7 +36,7 @@ impl Laid for u32 {
 
     ghost laying = { laid-plainly };
 
-    // One by one: they are few, and `copy_from_slice` would be a call for each piece.
+    // By a `for`, and no `copy_from_slice`, as in `rooms`.
     fn put(numbers: &[u32], room: &mut [u32], at: usize) -> usize {
         let mut next = at;
         for number in numbers {

@@ -140,7 +140,7 @@ fn put_codes(errors: &mut [u32], at: usize, first: u32, second: u32, place: u32)
     put_code(errors, next, second, place)
 }
 
-// Writes a piece that stands at place. It is inlined, since a piece that is handed over in memory takes longer than its bytes.
+// Writes a piece that stands at place. It is inlined, since handing a piece over in memory takes longer than writing it.
 #[inline(always)]
 pub(crate) fn put_piece(
     text: &mut [u8],

@@ -28,7 +28,7 @@ settled result contents total is = record {
   unique = λ κs a x y e f p q. let u = is κs a x e p in let v = is κs a y f q in (u.0 ∙ sym v.0, u.1 ∙ sym v.1);
 }
 
--- Of what a function's result points at, the bytes that are read there.
+-- Which bytes a function's result points at.
 abbrev pub Read : Ended → Type 0
 Read function = (κs : Lifetimes function) → Res function.signature κs → List ℕ
 

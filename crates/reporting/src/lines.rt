@@ -21,7 +21,7 @@ impl Writer<'_> {
         self.at = rooms::copy(text, &mut *self.out, at);
     }
 
-    // One byte, stored here: most of the lines are single digits, for each of which `rooms::copy` would go through its blocks.
+    // One byte, stored here: most of what lines hold is single digits, for each of which `rooms::copy` would look for blocks.
     fn byte(&mut self, byte: u8)
         ensures { Wrote self.old (byte ∷ []) self.new }
     {

@@ -19,9 +19,9 @@ fn put_bytes(from: &[u8], to: &mut [u8], at: usize) -> usize
     next
 }
 
-// Copies as many bytes of `from` as fit into `to` from `at` on, and answers the place after them; all else stays. In blocks of 32, by value, since the
-// compiler doesn't know that the two are apart; and no `copy_from_slice`, which becomes a call of memmove that the archive for C would then need. It is
-// inlined, since most runs are shorter than a call.
+// Copies as many bytes of `from` as fit into `to` from `at` on, and answers the place after them; all else stays. In blocks of 32, each copied out
+// first, since the compiler doesn't know that `from` and `to` don't overlap. By no `copy_from_slice`: it becomes a call of memmove, which the archive
+// for C would then need. It is inlined, since most runs are shorter than a call.
 #[inline(always)]
 pub fn copy(from: &[u8], to: &mut [u8], at: usize) -> usize
     ensures { Put to.old at (take (length to.old - at) from.now) to.new result }

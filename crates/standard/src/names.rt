@@ -43,8 +43,8 @@ pub struct Found {
     pub reference: CharRef,
 }
 
-// Whether a word stands at the front of s. Byte by byte, and no `get` or `starts_with`: of a table's words most differ at the first, and these look
-// at the lengths before.
+// Whether a word stands at the front of s. Byte by byte: most words of a table differ at their first byte, and `get` and `starts_with` look at the
+// lengths first.
 fn stands_at(word: &[u8], s: &[u8]) -> bool
     ensures { result ≡ stands word.now s.now }
 {
@@ -75,11 +75,11 @@ fn longer_of(found: Option<Found>, record: &Record<'_>, s: &[u8]) -> Option<Foun
     ensures longer { found_of result ≡ longer (found_of found) (name_of «record».now) s.now }
     ensures some { IfSome result (λ f. 0 < f.len) }
 {
-    if !stands_at(record.word, s) {
-        return found;
-    }
     let len = record.word.len();
     if len <= len_of(found) {
+        return found;
+    }
+    if !stands_at(record.word, s) {
         return found;
     }
     Some(Found {
