@@ -3,7 +3,7 @@
    Bytes are passed as a pointer and a length. Each function answers for any bytes, any numbers and any lengths; nothing is asked of the caller but
    that each pointer is valid for its length, and that no buffer that is written (text, errors, out, report) overlaps another one of the same call.
    Where a length is 0 the pointer may be NULL. Nothing is allocated and nothing is kept between calls, so threads may call at the same time. The
-   archive calls nothing but memcpy, and a call takes some 4 KiB of stack.
+   archive calls nothing but memcpy, and a call takes less than 1 KiB of stack, beside what a dynamic linker takes to find memcpy at the first call.
 
    Numbers in buffers are four bytes each, the lowest first, whatever the machine.
 
